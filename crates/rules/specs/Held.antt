@@ -1,0 +1,117 @@
+-- "What is held." Assumes nothing.
+use mathlib.Core.Bool.{Bool, true, false, cond}
+use mathlib.Core.List.{List}
+use Prim.Native.Nat.{ℕ, zero, suc, _+_, _*_, _-_}
+use lib.ListN.{getD}
+use lib.Dec.{ltb}
+use lib.IntN.{ℤ, pos, negsuc, subℕ}
+use lib.Signed.{ltZ}
+use Rattle.rules.specs.declared.Record.{Record}
+use Rattle.rules.specs.declared.Terms.{Terms}
+use Rattle.rules.specs.declared.Auction.{Auction}
+use Rattle.rules.specs.Count.{sumUpTo}
+use Rattle.rules.specs.Units.{tranches}
+use Rattle.rules.specs.Settings.{targetOf}
+use Rattle.rules.specs.Card.{lot}
+
+-- "g tranches at the going price p, d denied switches at the price q before its latest fall, r retained withdrawals at one exit price"
+abbrev pub entry : ℕ → ℕ → ℕ → ℕ → Record
+entry g d r x = record { going = tranches g; denied = tranches d; retained = lot r x }
+
+abbrev pub nothing : Record
+nothing = entry 0 0 0 0
+
+abbrev pub goingIn : Record → ℕ
+goingIn r = r .going .0
+
+abbrev pub deniedIn : Record → ℕ
+deniedIn r = r .denied .0
+
+abbrev pub retainedIn : Record → ℕ
+retainedIn r = r .retained .count .0
+
+abbrev pub exitIn : Record → ℕ
+exitIn r = r .retained .exit
+
+-- "Held is g + d + r"; '"Kept" means denied or retained'
+abbrev pub heldIn : Record → ℕ
+heldIn r = goingIn r + deniedIn r + retainedIn r
+
+abbrev pub keptIn : Record → ℕ
+keptIn r = deniedIn r + retainedIn r
+
+-- ---- a tranche kept, cancelled, deemed bid or outbid: the record is changed and handed back
+
+-- a withdrawal is retained at its exit price
+abbrev pub retained : Record → ℕ → Record
+retained r x = entry (goingIn r) (deniedIn r) (retainedIn r + 1) x
+
+-- a switch is denied
+abbrev pub denied : Record → Record
+denied r = entry (goingIn r) (deniedIn r + 1) (retainedIn r) (exitIn r)
+
+-- an increase is cancelled
+abbrev pub cancelled : Record → Record
+cancelled r = entry (goingIn r - 1) (deniedIn r) (retainedIn r) (exitIn r)
+
+-- "d joins g"
+abbrev pub deemed : Record → Record
+deemed r = entry (goingIn r + deniedIn r) 0 (retainedIn r) (exitIn r)
+
+-- a denied switch is outbid
+abbrev pub switchOutbid : Record → Record
+switchOutbid r = entry (goingIn r) (deniedIn r - 1) (retainedIn r) (exitIn r)
+
+-- a retained withdrawal is outbid; the exit price is 0 where none is left
+abbrev pub withdrawalOutbid : Record → Record
+withdrawalOutbid r =
+    entry (goingIn r) (deniedIn r) (retainedIn r - 1) (cond (ltb 1 (retainedIn r)) (exitIn r) 0)
+
+-- ---- the book
+
+-- the record of bidder b on product p stands at b * 8 + p
+abbrev pub place : ℕ → ℕ → ℕ
+place b p = b * 8 + p
+
+abbrev pub recordAt : List Record → ℕ → Record
+recordAt rs k = getD rs k nothing
+
+-- "Held is g + d + r over all bidders"
+abbrev pub held : List Record → ℕ → ℕ → ℕ
+held rs n p = sumUpTo (λ b. heldIn (recordAt rs (place b p))) n
+
+-- "Standing of a product: held minus target, negative while it is short"
+abbrev pub standing : ℕ → ℕ → ℤ
+standing x target = subℕ x target
+
+abbrev pub below : ℤ → Bool
+below z = ltZ z (pos 0)
+
+abbrev pub above : ℤ → Bool
+above z = ltZ (pos 0) z
+
+-- a standing above zero as a number, and 0 for any other
+abbrev pub aboveZero : ℤ → ℕ
+aboveZero (pos n) = n
+aboveZero (negsuc n) = 0
+
+abbrev pub standingOf : Auction → ℕ → ℤ
+standingOf a p = standing (held (a .records) (a .terms .bidders) p) (targetOf (a .terms) p)
+
+-- "A product ticked exactly when its standing after the last calculation was above zero; none ticked before round 1":
+-- while bids are open the records are those of the last calculation, and before round 1 nothing is held
+abbrev pub ticked : Auction → ℕ → Bool
+ticked a p = above (standingOf a p)
+
+abbrev pub freeOf : Auction → ℕ → ℕ
+freeOf a b = getD (a .free) b (tranches 0) .0
+
+-- "A bidder's eligibility is the sum of g + d, plus f"
+abbrev pub eligibility : Auction → ℕ → ℕ
+eligibility a b =
+    sumUpTo (λ p. goingIn (recordAt (a .records) (place b p)) + deniedIn (recordAt (a .records) (place b p))) (a .terms .products)
+    + freeOf a b
+
+-- "Total excess supply = the standings above zero, summed, plus all f"
+abbrev pub excess : Auction → ℕ
+excess a = sumUpTo (λ p. aboveZero (standingOf a p)) (a .terms .products) + sumUpTo (freeOf a) (a .terms .bidders)

@@ -1,0 +1,137 @@
+-- "The state is lent bytes of one fixed length": every byte of it, most significant first. Assumes nothing.
+use mathlib.Core.Bool.{Bool}
+use mathlib.Core.List.{List, [], _∷_, _++_}
+use Prim.Native.Nat.{ℕ, zero, suc, _+_, _*_, _/_, _%_}
+use lib.ListN.{length, getD}
+use lib.Dec.{eqb}
+use Rattle.rules.specs.declared.Line.{Line}
+use Rattle.rules.specs.declared.Record.{Record}
+use Rattle.rules.specs.declared.Terms.{Terms}
+use Rattle.rules.specs.declared.Auction.{Auction}
+use Rattle.rules.specs.Count.{allUpTo, listOf}
+use Rattle.rules.specs.Units.{tranches}
+use Rattle.rules.specs.Card.{line, noLine}
+use Rattle.rules.specs.Settings.{item, row, targetOf, capOf, startOf, initialOf, percentOf, decrementOf}
+use Rattle.rules.specs.Held.{entry, goingIn, deniedIn, retainedIn, exitIn, recordAt, freeOf}
+use Rattle.rules.specs.Bid.{bidIn, withdrawnIn, exitOn, priceAt, beforeAt}
+
+-- 13 bytes, 8 products of 11, 32 bidders of 4, 8 rows of 4, 256 records of 6, 256 bid lines of 6
+abbrev pub stateLength : ℕ
+stateLength = 3333
+
+abbrev pub productsFrom : ℕ
+productsFrom = 13
+
+abbrev pub biddersFrom : ℕ
+biddersFrom = 101
+
+abbrev pub rowsFrom : ℕ
+rowsFrom = 229
+
+abbrev pub recordsFrom : ℕ
+recordsFrom = 261
+
+abbrev pub bidsFrom : ℕ
+bidsFrom = 1797
+
+-- ---- to bytes
+
+abbrev pub byte1 : ℕ → List ℕ
+byte1 x = x % 256 ∷ []
+
+abbrev pub bytes2 : ℕ → List ℕ
+bytes2 x = x / 256 % 256 ∷ x % 256 ∷ []
+
+abbrev pub bytes3 : ℕ → List ℕ
+bytes3 x = x / 65536 % 256 ∷ x / 256 % 256 ∷ x % 256 ∷ []
+
+abbrev pub bytes4 : ℕ → List ℕ
+bytes4 x = x / 16777216 % 256 ∷ x / 65536 % 256 ∷ x / 256 % 256 ∷ x % 256 ∷ []
+
+-- the bytes of the first n parts
+unfoldable pub bytesUpTo : (ℕ → List ℕ) → ℕ → List ℕ
+bytesUpTo part zero = []
+bytesUpTo part (suc n) = bytesUpTo part n ++ part n
+
+-- phase, unit, products, bidders, rows; round 2, statewide cap 2, bitmap 4
+abbrev pub headBytes : Auction → List ℕ
+headBytes a =
+    byte1 (a .phase) ++ byte1 (a .terms .unit) ++ byte1 (a .terms .products) ++ byte1 (a .terms .bidders)
+    ++ byte1 (a .terms .rows) ++ bytes2 (a .round) ++ bytes2 (a .terms .statewide .0) ++ bytes4 (a .filed)
+
+-- target, cap; starting price 3, p 3, q 3
+abbrev pub productBytes : Auction → ℕ → List ℕ
+productBytes a p =
+    byte1 (targetOf (a .terms) p) ++ byte1 (capOf (a .terms) p) ++ bytes3 (startOf (a .terms) p) ++ bytes3 (priceAt a p)
+    ++ bytes3 (beforeAt a p)
+
+-- initial eligibility 2, f 2
+abbrev pub bidderBytes : Auction → ℕ → List ℕ
+bidderBytes a b = bytes2 (initialOf (a .terms) b) ++ bytes2 (freeOf a b)
+
+-- percentage 2, decrement 2
+abbrev pub rowBytes : Auction → ℕ → List ℕ
+rowBytes a i = bytes2 (percentOf (a .terms) i) ++ bytes2 (decrementOf (a .terms) i)
+
+-- g, d, r; exit price 3
+abbrev pub recordBytes : Record → List ℕ
+recordBytes r = byte1 (goingIn r) ++ byte1 (deniedIn r) ++ byte1 (retainedIn r) ++ bytes3 (exitIn r)
+
+-- tranches, withdrawn; exit price 3, priority
+abbrev pub lineBytes : Line → List ℕ
+lineBytes l = byte1 (bidIn l) ++ byte1 (withdrawnIn l) ++ bytes3 (exitOn l) ++ byte1 (l .priority)
+
+unfoldable pub stored : Auction → List ℕ
+stored a =
+    headBytes a ++ bytesUpTo (productBytes a) 8 ++ bytesUpTo (bidderBytes a) 32 ++ bytesUpTo (rowBytes a) 8
+    ++ bytesUpTo (λ k. recordBytes (recordAt (a .records) k)) 256
+    ++ bytesUpTo (λ k. lineBytes (getD (a .bids) k noLine)) 256
+
+-- ---- and back
+
+abbrev pub read1 : List ℕ → ℕ → ℕ
+read1 s k = getD s k 0
+
+abbrev pub read2 : List ℕ → ℕ → ℕ
+read2 s k = getD s k 0 * 256 + getD s (k + 1) 0
+
+abbrev pub read3 : List ℕ → ℕ → ℕ
+read3 s k = getD s k 0 * 65536 + getD s (k + 1) 0 * 256 + getD s (k + 2) 0
+
+abbrev pub read4 : List ℕ → ℕ → ℕ
+read4 s k = getD s k 0 * 16777216 + getD s (k + 1) 0 * 65536 + getD s (k + 2) 0 * 256 + getD s (k + 3) 0
+
+abbrev pub recordFrom : List ℕ → ℕ → Record
+recordFrom s k = entry (read1 s k) (read1 s (k + 1)) (read1 s (k + 2)) (read3 s (k + 3))
+
+abbrev pub lineFrom : List ℕ → ℕ → Line
+lineFrom s k = line (read1 s k) (read1 s (k + 1)) (read3 s (k + 2)) (read1 s (k + 5))
+
+unfoldable pub termsFrom : List ℕ → Terms
+termsFrom s = record {
+  unit = read1 s 1;
+  products = read1 s 2;
+  bidders = read1 s 3;
+  rows = read1 s 4;
+  statewide = tranches (read2 s 7);
+  item = listOf (λ p. item (read1 s (p * 11 + 13)) (read1 s (p * 11 + 14)) (read3 s (p * 11 + 15))) 8;
+  eligibility = listOf (λ b. tranches (read2 s (b * 4 + 101))) 32;
+  row = listOf (λ i. row (read2 s (i * 4 + 229)) (read2 s (i * 4 + 231))) 8;
+}
+
+unfoldable pub loaded : List ℕ → Auction
+loaded s = record {
+  phase = read1 s 0;
+  round = read2 s 5;
+  filed = read4 s 9;
+  terms = termsFrom s;
+  price = listOf (λ p. read3 s (p * 11 + 18)) 8;
+  before = listOf (λ p. read3 s (p * 11 + 21)) 8;
+  free = listOf (λ b. tranches (read2 s (b * 4 + 103))) 32;
+  records = listOf (λ k. recordFrom s (k * 6 + 261)) 256;
+  bids = listOf (λ k. lineFrom s (k * 6 + 1797)) 256;
+}
+
+-- "all zero as issued"
+abbrev pub allZero : List ℕ → Bool
+allZero s = allUpTo (λ i. eqb (getD s i 0) 0) (length s)
