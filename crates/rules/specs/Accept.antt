@@ -1,10 +1,7 @@
 -- "Calculating", step 1: "Take all bids as accepted." Assumes nothing.
-use mathlib.Core.Bool.{Bool, true, false, cond}
 use mathlib.Core.List.{List}
-use Prim.Native.Nat.{ℕ, zero, suc, _+_, _*_, _-_, _/_, _%_}
+use Prim.Native.Nat.{ℕ, _+_, _*_, _-_, _/_, _%_}
 use lib.ListN.{getD, set}
-use lib.Dec.{ltb}
-use Rattle.rules.specs.declared.Lot.{Lot}
 use Rattle.rules.specs.declared.Line.{Line}
 use Rattle.rules.specs.declared.Record.{Record}
 use Rattle.rules.specs.declared.Place.{Place}
@@ -12,7 +9,7 @@ use Rattle.rules.specs.declared.Auction.{Auction}
 use Rattle.rules.specs.Count.{sumUpTo, listOf}
 use Rattle.rules.specs.Units.{tranches}
 use Rattle.rules.specs.Card.{lot}
-use Rattle.rules.specs.Held.{entry, nothing, goingIn, deniedIn, retainedIn, exitIn, heldIn, keptIn, retained, denied, cancelled, deemed, switchOutbid, withdrawalOutbid}
+use Rattle.rules.specs.Held.{entry, nothing, deniedIn, retainedIn, exitIn, heldIn, keptIn, retained, denied, cancelled, deemed, switchOutbid, withdrawalOutbid}
 use Rattle.rules.specs.Bid.{bidIn, withdrawnIn, exitOn, reduction, increase, recordOf, bidOn}
 
 -- a record; withdrawals of this bid not kept, and their exit price; switches not denied; increases not cancelled; priority

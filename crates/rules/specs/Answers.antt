@@ -1,5 +1,5 @@
 -- "Where an answer is an enum, a definition gives this paper's number and values for each of the enum's cases." Assumes nothing.
-use mathlib.Core.Bool.{Bool, true, false, cond}
+use mathlib.Core.Bool.{cond}
 use mathlib.Core.List.{List, [], _∷_}
 use Prim.Native.Nat.{ℕ, zero, suc}
 use lib.Dec.{eqb}
@@ -54,10 +54,7 @@ phaseNumber Closed = closed
 phaseNumber Stopped = stopped
 
 abbrev pub phaseOf : ℕ → Phase
-phaseOf zero = Issued
-phaseOf (suc zero) = Open
-phaseOf (suc (suc zero)) = Closed
-phaseOf (suc (suc (suc n))) = Stopped
+phaseOf n = cond (eqb n issued) Issued (cond (eqb n bidsOpen) Open (cond (eqb n closed) Closed Stopped))
 
 -- a call's number as its answer: 0 is done
 abbrev pub answerFrom : ℕ → Answer

@@ -1,7 +1,7 @@
 -- "Numbers answered": for each call one total definition of its answer and of every byte lent to it. Assumes nothing.
-use mathlib.Core.Bool.{Bool, true, false, cond}
+use mathlib.Core.Bool.{cond}
 use mathlib.Core.List.{List}
-use Prim.Native.Nat.{ℕ, zero, suc, _+_, _*_, _-_}
+use Prim.Native.Nat.{ℕ, zero, _*_, _-_}
 use lib.ListN.{length, replicate}
 use lib.Seq.{sets}
 use lib.Count.{ones}

@@ -1,5 +1,5 @@
 -- "The bid card." Assumes nothing.
-use mathlib.Core.Bool.{Bool, true, false, _&&_, cond}
+use mathlib.Core.Bool.{Bool, _&&_, cond}
 use mathlib.Core.List.{List}
 use Prim.Native.Nat.{ℕ, zero, suc, _+_, _-_, _*_, _/_}
 use lib.ListN.{length, getD, set, replicate}
@@ -8,7 +8,6 @@ use Rattle.rules.specs.declared.Lot.{Lot}
 use Rattle.rules.specs.declared.Line.{Line}
 use Rattle.rules.specs.declared.Field.{Field}
 use Rattle.rules.specs.declared.Field.the-variants.{Value, Past}
-use Rattle.rules.specs.declared.Card.{Card}
 use Rattle.rules.specs.declared.Card.the-variants.{Bid, Refused}
 use Rattle.rules.specs.declared.CardRead.{CardRead}
 use Rattle.rules.specs.declared.Answer.{Answer}

@@ -1,13 +1,12 @@
 -- "What is held." Assumes nothing.
-use mathlib.Core.Bool.{Bool, true, false, cond}
+use mathlib.Core.Bool.{Bool, cond}
 use mathlib.Core.List.{List}
-use Prim.Native.Nat.{ℕ, zero, suc, _+_, _*_, _-_}
+use Prim.Native.Nat.{ℕ, zero, _+_, _*_, _-_}
 use lib.ListN.{getD}
 use lib.Dec.{ltb}
 use lib.IntN.{ℤ, pos, negsuc, subℕ}
 use lib.Signed.{ltZ}
 use Rattle.rules.specs.declared.Record.{Record}
-use Rattle.rules.specs.declared.Terms.{Terms}
 use Rattle.rules.specs.declared.Auction.{Auction}
 use Rattle.rules.specs.Count.{sumUpTo}
 use Rattle.rules.specs.Units.{tranches}

@@ -1,5 +1,5 @@
 -- "Calculating", step 2: "While some ticked product is below target, take the first in rank and keep one tranche there." Assumes nothing.
-use mathlib.Core.Bool.{Bool, true, false, _&&_}
+use mathlib.Core.Bool.{Bool, _&&_}
 use mathlib.Core.List.{List}
 use Prim.Native.Nat.{ℕ, zero, suc, _+_, _*_}
 use lib.Dec.{ltb}

@@ -1,5 +1,5 @@
 -- "Next price of a product above target." Assumes nothing.
-use mathlib.Core.Bool.{Bool, true, false, cond}
+use mathlib.Core.Bool.{cond}
 use Prim.Native.Nat.{ℕ, zero, suc, _+_, _*_, _-_, _/_, max}
 use lib.Dec.{leb}
 use lib.IntN.{ℤ}

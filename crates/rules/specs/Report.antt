@@ -1,6 +1,5 @@
 -- "Report and result." Assumes nothing.
-use mathlib.Core.Bool.{Bool, true, false, cond}
-use mathlib.Core.List.{List}
+use mathlib.Core.Bool.{cond}
 use Prim.Native.Nat.{ℕ, zero, suc, _+_, _*_, _-_, _/_, max}
 use lib.ListN.{replicate}
 use lib.Dec.{leb, ltb, eqb}

@@ -1,10 +1,8 @@
 -- "Settings." Assumes nothing.
-use mathlib.Core.Bool.{Bool, true, false, _&&_, cond}
-use mathlib.Core.List.{List}
-use Prim.Native.Nat.{ℕ, zero, suc, _+_, _-_}
+use mathlib.Core.Bool.{Bool, true, _&&_, cond}
+use Prim.Native.Nat.{ℕ, _-_}
 use lib.ListN.{getD}
 use lib.Dec.{leb, ltb, eqb}
-use Rattle.rules.specs.declared.Tranches.{Tranches}
 use Rattle.rules.specs.declared.Product.{Product}
 use Rattle.rules.specs.declared.Row.{Row}
 use Rattle.rules.specs.declared.Settings.{Settings}

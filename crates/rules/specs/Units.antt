@@ -1,5 +1,7 @@
 -- Counters kept apart: tranches, prices of the two units, basis points. Assumes nothing.
-use Prim.Native.Nat.{ℕ, zero, suc}
+use mathlib.Core.Bool.{cond}
+use Prim.Native.Nat.{ℕ}
+use lib.Dec.{eqb}
 use Rattle.rules.specs.declared.Tranches.{Tranches}
 use Rattle.rules.specs.declared.KwhPrice.{KwhPrice}
 use Rattle.rules.specs.declared.MwDayPrice.{MwDayPrice}
@@ -29,10 +31,15 @@ abbrev pub amountOf : Price → ℕ
 amountOf (price.Kwh x) = x .0
 amountOf (price.MwDay x) = x .0
 
+abbrev pub kwh : ℕ → KwhPrice
+kwh x = record { 0 = x }
+
+abbrev pub mwDay : ℕ → MwDayPrice
+mwDay x = record { 0 = x }
+
 -- an amount as a price of the unit
 abbrev pub priceOf : ℕ → ℕ → Price
-priceOf zero x = price.Kwh (record { 0 = x })
-priceOf (suc u) x = price.MwDay (record { 0 = x })
+priceOf u x = cond (eqb u 0) (price.Kwh (kwh x)) (price.MwDay (mwDay x))
 
 abbrev pub quote : ℕ → ℕ → Quote
 quote u x = record { price = priceOf u x }

@@ -1,4 +1,15 @@
-// The words of document 01 as types. What they mean stands in specs/, in the order of the document.
+// The words of document 01 as types, with the small methods that belong to them. What they mean stands in specs/, in the order
+// of the document.
+ghost use mathlib.Core.Path.{_≡_};
+ghost use Prim.Native.Nat.{_+_, _-_, _≤_, _<_};
+ghost use Rattle.rules.specs.Units.{kwh, mwDay, unitNumber, unitOf, amountOf, priceOf};
+ghost use Rattle.rules.specs.Answers.{phaseOf};
+ghost use Rattle.rules.specs.Card.{noLine, lineFits, lineZero};
+ghost use Rattle.rules.specs.Held.{nothing, goingIn, deniedIn, retainedIn, heldIn, keptIn, retained, denied, cancelled, deemed, switchOutbid, withdrawalOutbid};
+ghost use Rattle.rules.specs.Standing.{recordZero};
+ghost use Rattle.rules.specs.Accept.{leavingOf, movingOf, riseOf, retain, deny, cancel, deem, outbidSwitch, outbidWithdrawal};
+ghost use Rattle.rules.specs.Price.{fallen, priceFallen};
+ghost use Rattle.rules.specs.Report.{rangeOf};
 
 // ---- Counters kept apart
 
@@ -21,6 +32,93 @@ pub enum Unit {
 pub enum Price {
     Kwh(KwhPrice),
     MwDay(MwDayPrice),
+}
+
+impl Unit {
+    pub fn number(self) -> u8
+        ensures { λ r. ⌜ (r ≡ unitNumber self) × (r ≤ 1) ⌝ }
+    {
+        match self {
+            Unit::Kwh => 0,
+            Unit::MwDay => 1,
+        }
+    }
+}
+
+// The cut is p x decrement / 10,000, rounded half up, at least 1.
+fn after_cut(amount: u32, by: BasisPoints) -> u32
+    ensures { λ r. ⌜ (r ≡ fallen amount (by .0)) × (r ≤ amount) ⌝ }
+{
+    let cut = (amount as u64 * by.0 as u64 + 5000) / 10000;
+    if cut < 1 {
+        return less(amount, 1);
+    }
+    less(amount, cut)
+}
+
+// a less b, and 0 where b is more.
+fn less(a: u32, b: u64) -> u32
+    ensures { λ r. ⌜ (r ≡ a - b) × (r ≤ a) ⌝ }
+{
+    if a as u64 <= b {
+        return 0;
+    }
+    (a as u64 - b) as u32
+}
+
+impl KwhPrice {
+    pub fn fall(self, by: BasisPoints) -> KwhPrice
+        ensures { λ r. ⌜ r ≡ kwh (fallen (self .0) (by .0)) ⌝ }
+    {
+        KwhPrice(after_cut(self.0, by))
+    }
+}
+
+impl MwDayPrice {
+    pub fn fall(self, by: BasisPoints) -> MwDayPrice
+        ensures { λ r. ⌜ r ≡ mwDay (fallen (self .0) (by .0)) ⌝ }
+    {
+        MwDayPrice(after_cut(self.0, by))
+    }
+}
+
+impl Price {
+    pub fn of(unit: u8, amount: u32) -> Price
+        ensures { λ r. ⌜ r ≡ priceOf unit amount ⌝ }
+    {
+        if unit == 0 {
+            return Price::Kwh(KwhPrice(amount));
+        }
+        Price::MwDay(MwDayPrice(amount))
+    }
+
+    pub fn unit(self) -> u8
+        ensures { λ r. ⌜ (r ≡ unitOf self) × (r ≤ 1) ⌝ }
+    {
+        match self {
+            Price::Kwh(_) => 0,
+            Price::MwDay(_) => 1,
+        }
+    }
+
+    pub fn amount(self) -> u32
+        ensures { λ r. ⌜ r ≡ amountOf self ⌝ }
+    {
+        match self {
+            Price::Kwh(x) => x.0,
+            Price::MwDay(x) => x.0,
+        }
+    }
+
+    // The price after its cut, in the same unit.
+    pub fn fall(self, by: BasisPoints) -> Price
+        ensures { λ r. ⌜ r ≡ priceFallen self (by .0) ⌝ }
+    {
+        match self {
+            Price::Kwh(x) => Price::Kwh(x.fall(by)),
+            Price::MwDay(x) => Price::MwDay(x.fall(by)),
+        }
+    }
 }
 
 // An array holds a price inside this struct.
@@ -68,6 +166,52 @@ pub struct Line {
     pub priority: u8,
 }
 
+impl Line {
+    pub fn none() -> Line
+        ensures { λ r. ⌜ r ≡ noLine ⌝ }
+    {
+        Line {
+            tranches: Tranches(0),
+            withdrawn: Lot {
+                count: Tranches(0),
+                exit: 0,
+            },
+            priority: 0,
+        }
+    }
+
+    // Whether every field fits its bits on a card.
+    pub fn fits(self) -> bool
+        ensures { λ r. ⌜ r ≡ lineFits self ⌝ }
+    {
+        if self.tranches.0 >= 256 {
+            return false;
+        }
+        if self.withdrawn.count.0 >= 256 {
+            return false;
+        }
+        if self.withdrawn.exit >= 131072 {
+            return false;
+        }
+        self.priority < 8
+    }
+
+    pub fn is_zero(self) -> bool
+        ensures { λ r. ⌜ r ≡ lineZero self ⌝ }
+    {
+        if self.tranches.0 != 0 {
+            return false;
+        }
+        if self.withdrawn.count.0 != 0 {
+            return false;
+        }
+        if self.withdrawn.exit != 0 {
+            return false;
+        }
+        self.priority == 0
+    }
+}
+
 // One field of a card, or that it ends past the card.
 pub enum Field {
     Value(u32),
@@ -93,6 +237,116 @@ pub struct Record {
     pub going: Tranches,
     pub denied: Tranches,
     pub retained: Lot,
+}
+
+// The record of one bidder on one product is changed and handed back.
+impl Record {
+    pub fn none() -> Record
+        ensures { λ r. ⌜ r ≡ nothing ⌝ }
+    {
+        Record {
+            going: Tranches(0),
+            denied: Tranches(0),
+            retained: Lot {
+                count: Tranches(0),
+                exit: 0,
+            },
+        }
+    }
+
+    pub fn held(self) -> u32
+        ensures { λ r. ⌜ (r ≡ heldIn self) × (r ≤ 196605) ⌝ }
+    {
+        self.going.0 as u32 + self.denied.0 as u32 + self.retained.count.0 as u32
+    }
+
+    pub fn kept(self) -> u32
+        ensures { λ r. ⌜ (r ≡ keptIn self) × (r ≤ 131070) ⌝ }
+    {
+        self.denied.0 as u32 + self.retained.count.0 as u32
+    }
+
+    pub fn is_zero(self) -> bool
+        ensures { λ r. ⌜ r ≡ recordZero self ⌝ }
+    {
+        if self.going.0 != 0 {
+            return false;
+        }
+        if self.denied.0 != 0 {
+            return false;
+        }
+        if self.retained.count.0 != 0 {
+            return false;
+        }
+        self.retained.exit == 0
+    }
+
+    // A withdrawal is retained at its exit price.
+    pub fn retain(mut self, exit: u32) -> Record
+        requires { ⌜ retainedIn self < 65535 ⌝ }
+        ensures { λ r. ⌜ r ≡ retained self exit ⌝ }
+    {
+        let n = self.retained.count.0 + 1;
+        self.retained.count.0 = n;
+        self.retained.exit = exit;
+        self
+    }
+
+    // A switch is denied.
+    pub fn keep(mut self) -> Record
+        requires { ⌜ deniedIn self < 65535 ⌝ }
+        ensures { λ r. ⌜ r ≡ denied self ⌝ }
+    {
+        let n = self.denied.0 + 1;
+        self.denied.0 = n;
+        self
+    }
+
+    // An increase is cancelled.
+    pub fn cancel(mut self) -> Record
+        requires { ⌜ 0 < goingIn self ⌝ }
+        ensures { λ r. ⌜ r ≡ cancelled self ⌝ }
+    {
+        let n = self.going.0 - 1;
+        self.going.0 = n;
+        self
+    }
+
+    // The denied switches are deemed bid at the going price.
+    pub fn deem(mut self) -> Record
+        requires { ⌜ goingIn self + deniedIn self ≤ 65535 ⌝ }
+        ensures { λ r. ⌜ r ≡ deemed self ⌝ }
+    {
+        let n = self.going.0 + self.denied.0;
+        self.going.0 = n;
+        self.denied.0 = 0;
+        self
+    }
+
+    // A denied switch is outbid.
+    pub fn outbid_switch(mut self) -> Record
+        requires { ⌜ 0 < deniedIn self ⌝ }
+        ensures { λ r. ⌜ r ≡ switchOutbid self ⌝ }
+    {
+        let n = self.denied.0 - 1;
+        self.denied.0 = n;
+        self
+    }
+
+    // A retained withdrawal is outbid, and the exit price is 0 where none is left.
+    pub fn outbid_withdrawal(mut self) -> Record
+        requires { ⌜ 0 < retainedIn self ⌝ }
+        ensures { λ r. ⌜ r ≡ withdrawalOutbid self ⌝ }
+    {
+        let n = self.retained.count.0 - 1;
+        if self.retained.count.0 <= 1 {
+            self.retained.count.0 = n;
+            self.retained.exit = 0;
+            return self;
+        }
+        self.retained.count.0 = n;
+        self
+    }
 }
 
 // ---- The whole state
@@ -136,6 +390,23 @@ pub enum Phase {
     Stopped,
 }
 
+impl Phase {
+    pub fn of(number: u8) -> Phase
+        ensures { λ r. ⌜ r ≡ phaseOf number ⌝ }
+    {
+        if number == 0 {
+            return Phase::Issued;
+        }
+        if number == 1 {
+            return Phase::Open;
+        }
+        if number == 2 {
+            return Phase::Closed;
+        }
+        Phase::Stopped
+    }
+}
+
 // ---- Calculating
 
 // What a search finds.
@@ -152,6 +423,72 @@ pub struct Place {
     pub moving: Tranches,
     pub rise: Tranches,
     pub priority: u8,
+}
+
+impl Place {
+    // One withdrawal not kept becomes a retained one at the bid's exit price.
+    pub fn retain(mut self) -> Place
+        requires { ⌜ (0 < leavingOf self) × (retainedIn (self .holds) < 65535) ⌝ }
+        ensures { λ r. ⌜ r ≡ retain self ⌝ }
+    {
+        let exit = self.leaving.exit;
+        let n = self.leaving.count.0 - 1;
+        let h = self.holds.retain(exit);
+        self.holds = h;
+        self.leaving.count.0 = n;
+        self
+    }
+
+    // One switch not denied becomes a denied one.
+    pub fn keep(mut self) -> Place
+        requires { ⌜ (0 < movingOf self) × (deniedIn (self .holds) < 65535) ⌝ }
+        ensures { λ r. ⌜ r ≡ deny self ⌝ }
+    {
+        let n = self.moving.0 - 1;
+        let h = self.holds.keep();
+        self.holds = h;
+        self.moving.0 = n;
+        self
+    }
+
+    // One increase is cancelled.
+    pub fn cancel(mut self) -> Place
+        requires { ⌜ (0 < riseOf self) × (0 < goingIn (self .holds)) ⌝ }
+        ensures { λ r. ⌜ r ≡ cancel self ⌝ }
+    {
+        let n = self.rise.0 - 1;
+        let h = self.holds.cancel();
+        self.holds = h;
+        self.rise.0 = n;
+        self
+    }
+
+    pub fn deem(mut self) -> Place
+        requires { ⌜ goingIn (self .holds) + deniedIn (self .holds) ≤ 65535 ⌝ }
+        ensures { λ r. ⌜ r ≡ deem self ⌝ }
+    {
+        let h = self.holds.deem();
+        self.holds = h;
+        self
+    }
+
+    pub fn outbid_switch(mut self) -> Place
+        requires { ⌜ 0 < deniedIn (self .holds) ⌝ }
+        ensures { λ r. ⌜ r ≡ outbidSwitch self ⌝ }
+    {
+        let h = self.holds.outbid_switch();
+        self.holds = h;
+        self
+    }
+
+    pub fn outbid_withdrawal(mut self) -> Place
+        requires { ⌜ 0 < retainedIn (self .holds) ⌝ }
+        ensures { λ r. ⌜ r ≡ outbidWithdrawal self ⌝ }
+    {
+        let h = self.holds.outbid_withdrawal();
+        self.holds = h;
+        self
+    }
 }
 
 // After step 2, with the count of tranches kept.
@@ -194,6 +531,29 @@ pub enum Calculation {
 pub struct Range {
     pub low: u32,
     pub high: u32,
+}
+
+impl Range {
+    // 0-20; 21-30; 31-40; then fives.
+    pub fn of(excess: u32) -> Range
+        requires { ⌜ excess < 4000000000 ⌝ }
+        ensures { λ r. ⌜ r ≡ rangeOf excess ⌝ }
+    {
+        if excess <= 20 {
+            return Range { low: 0, high: 20 };
+        }
+        if excess <= 30 {
+            return Range { low: 21, high: 30 };
+        }
+        if excess <= 40 {
+            return Range { low: 31, high: 40 };
+        }
+        let fives = (excess - 41) / 5 * 5;
+        Range {
+            low: 41 + fives,
+            high: 45 + fives,
+        }
+    }
 }
 
 pub enum Report {
