@@ -47,36 +47,35 @@ opened t = record {
   bids = replicate 256 noLine;
 }
 
--- open: 1, 17, 15
+-- ---- open: 1, 17, 15
+
 abbrev pub openNumber : List ℕ → Settings → ℕ
 openNumber s x = cond (eqb (length s) stateLength) (cond (allZero s) (cond (settingsFit x) 0 15) 17) 1
 
 unfoldable pub openCall : List ℕ → Settings → Outcome Answer
 openCall s x = unlessRefused (openNumber s x) (stored (opened (termsOf x))) s
 
--- 1 "state length wrong"; 2 "state neither issued nor standing"; an issued state has no auction, of which the answer is given;
--- else what the standing auction says
-abbrev pub ofState : {A : Type 0} → (ℕ → A) → List ℕ → ℕ → (Auction → A) → A
-ofState refuse s whenIssued says =
+-- 1 "state length wrong"; 2 "state neither issued nor standing"; of an issued state the number given; else what the auction says
+abbrev pub ofState : List ℕ → ℕ → (Auction → ℕ) → ℕ
+ofState s whenIssued says =
     cond (eqb (length s) stateLength)
-    (cond (allZero s) (refuse whenIssued) (cond (stands (loaded s)) (says (loaded s)) (refuse 2)))
-    (refuse 1)
+    (cond (allZero s) whenIssued (cond (stands (loaded s)) (says (loaded s)) 2))
+    1
 
-abbrev pub number : ℕ → ℕ
-number n = n
+-- ---- file: 1, 2, 3, 4, 5, 6 .. 13
 
--- 6 "no such bidder"; 7 "other round"; 8 to 13
-abbrev pub cardNumber : Auction → Card → List Line → ℕ
-cardNumber a (card.Refused n) ls = n
-cardNumber a (card.Bid b r) ls =
-    cond (ltb b (a .terms .bidders)) (cond (eqb r (a .round)) (judged a b ls) 7) 6
+-- 6 "no such bidder"; 7 "other round"; 8 to 13; 4 and 5 are the card's own
+abbrev pub bidNumber : Auction → Card → List Line → ℕ
+bidNumber a (card.Refused n) ls = n
+bidNumber a (card.Bid b r) ls = cond (ltb b (a .terms .bidders)) (cond (eqb r (a .round)) (judged a b ls) 7) 6
 
--- 3 "bids not open"; 4, 5; 6 to 13
-abbrev pub filedNumber : List ℕ → Auction → ℕ
-filedNumber s a =
-    cond (isOpen a)
-    (cardNumber a (readCard s (a .terms .products) .card) (readCard s (a .terms .products) .lines))
-    3
+-- 3 "bids not open"
+abbrev pub cardNumber : List ℕ → Auction → ℕ
+cardNumber c a =
+    cond (isOpen a) (bidNumber a (readCard c (a .terms .products) .card) (readCard c (a .terms .products) .lines)) 3
+
+abbrev pub fileNumber : List ℕ → List ℕ → ℕ
+fileNumber s c = ofState s 3 (cardNumber c)
 
 -- "The last valid card in a round stands": the bidder's bit is set, and its slot holds the lines
 unfoldable pub withCard : Auction → ℕ → List Line → Auction
@@ -97,67 +96,78 @@ bidderOn (card.Bid b r) = b
 bidderOn (card.Refused n) = 0
 
 abbrev pub afterCard : List ℕ → Auction → Auction
-afterCard s a =
-    withCard a (bidderOn (readCard s (a .terms .products) .card)) (readCard s (a .terms .products) .lines)
-
--- file: 1, 2, 3, 4, 5, 6 .. 13
-abbrev pub fileNumber : List ℕ → List ℕ → ℕ
-fileNumber s c = ofState number s 3 (filedNumber c)
+afterCard c a =
+    withCard a (bidderOn (readCard c (a .terms .products) .card)) (readCard c (a .terms .products) .lines)
 
 unfoldable pub fileCall : List ℕ → List ℕ → Outcome Answer
 fileCall s c = unlessRefused (fileNumber s c) (stored (afterCard c (loaded s))) s
 
--- "the number of bidders still to file": the ones of the bitmap, taken from the number of bidders; count: 1, 2, 3
-abbrev pub toFile : Auction → Count
-toFile a = cond (isOpen a) (count.ToFile (a .terms .bidders - ones (a .filed))) (count.Refused 3)
+-- ---- count: 1, 2, 3
+
+abbrev pub openNumberOf : Auction → ℕ
+openNumberOf a = cond (isOpen a) 0 3
+
+abbrev pub countNumber : List ℕ → ℕ
+countNumber s = ofState s 3 openNumberOf
+
+-- "the number of bidders still to file": the ones of the bitmap, taken from the number of bidders
+abbrev pub toFile : Auction → ℕ
+toFile a = a .terms .bidders - ones (a .filed)
 
 unfoldable pub countCall : List ℕ → Count
-countCall s = ofState count.Refused s 3 toFile
+countCall s = cond (eqb (countNumber s) 0) (count.ToFile (toFile (loaded s))) (count.Refused (countNumber s))
 
--- calculate: 1, 2, 3, 14
+-- ---- calculate: 1, 2, 3, 14 "draw order wrong"
+
+abbrev pub drawNumber : List ℕ → Auction → ℕ
+drawNumber draw a = cond (isOpen a) (cond (drawFits (a .terms .bidders) draw) 0 14) 3
+
+abbrev pub calculateNumber : List ℕ → List ℕ → ℕ
+calculateNumber s draw = ofState s 3 (drawNumber draw)
+
 abbrev pub calculationDone : Calculated → Outcome Calculation
 calculationDone c = outcome (calculation.Done (c .kept) (c .outbid)) (stored (c .auction))
 
-abbrev pub calculationRefused : List ℕ → ℕ → Outcome Calculation
-calculationRefused s n = outcome (calculation.Refused n) s
-
-abbrev pub calculateIn : List ℕ → List ℕ → Auction → Outcome Calculation
-calculateIn s draw a =
-    cond (isOpen a)
-    (cond (drawFits (a .terms .bidders) draw) (calculationDone (calculated a draw)) (calculationRefused s 14))
-    (calculationRefused s 3)
-
 unfoldable pub calculateCall : List ℕ → List ℕ → Outcome Calculation
-calculateCall s draw = ofState (calculationRefused s) s 3 (calculateIn s draw)
+calculateCall s draw =
+    cond (eqb (calculateNumber s draw) 0)
+    (calculationDone (calculated (loaded s) draw))
+    (outcome (calculation.Refused (calculateNumber s draw)) s)
 
--- report: 1, 2, 3 (issued), 6, 18 "open in round 1"
-abbrev pub reportIn : ℕ → Auction → Reported
-reportIn b a =
-    cond (ltb b (a .terms .bidders))
-    (cond (isOpen a) (cond (eqb (a .round) 1) (reportRefused 18) (reportOn a b)) (reportOn a b))
-    (reportRefused 6)
+-- ---- report: 1, 2, 3 (issued), 6, 18 "open in round 1"
+
+abbrev pub bidderNumber : ℕ → Auction → ℕ
+bidderNumber b a = cond (ltb b (a .terms .bidders)) (cond (isOpen a && eqb (a .round) 1) 18 0) 6
+
+abbrev pub reportNumber : List ℕ → ℕ → ℕ
+reportNumber s b = ofState s 3 (bidderNumber b)
 
 unfoldable pub reportCall : List ℕ → ℕ → Reported
-reportCall s b = ofState reportRefused s 3 (reportIn b)
+reportCall s b = cond (eqb (reportNumber s b) 0) (reportOn (loaded s) b) (reportRefused (reportNumber s b))
 
--- result: 1, 2, 16 "auction not closed"
-abbrev pub resultIn : Auction → Awarded
-resultIn a = cond (eqb (a .phase) closed) (resultOf a) (resultRefused 16)
+-- ---- result: 1, 2, 16 "auction not closed"
+
+abbrev pub closedNumber : Auction → ℕ
+closedNumber a = cond (eqb (a .phase) closed) 0 16
+
+abbrev pub resultNumber : List ℕ → ℕ
+resultNumber s = ofState s 16 closedNumber
 
 unfoldable pub resultCall : List ℕ → Awarded
-resultCall s = ofState resultRefused s 16 resultIn
+resultCall s = cond (eqb (resultNumber s) 0) (resultOf (loaded s)) (resultRefused (resultNumber s))
 
--- return: 1; "A return accepts any state of the right length and leaves it all zero, as first issued."
+-- ---- return: 1; "A return accepts any state of the right length and leaves it all zero, as first issued."
+
 abbrev pub returnNumber : List ℕ → ℕ
 returnNumber s = cond (eqb (length s) stateLength) 0 1
 
 unfoldable pub returnCall : List ℕ → Outcome Answer
 returnCall s = unlessRefused (returnNumber s) (replicate stateLength 0) s
 
--- read: 29, 4, 5
+-- ---- apart from any auction: read 29, 4, 5; write 29, 4, 30
+
 abbrev pub readCall : List ℕ → ℕ → CardRead
 readCall s n = readCard s n
 
--- write: 29, 4, 30
 abbrev pub writeCall : List ℕ → ℕ → ℕ → ℕ → List Line → Outcome Answer
 writeCall room n bidder round ls = writeCard room n bidder round ls
