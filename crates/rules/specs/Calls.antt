@@ -1,5 +1,5 @@
 -- "Numbers answered": for each call one total definition of its answer and of every byte lent to it. Assumes nothing.
-use mathlib.Core.Bool.{cond}
+use mathlib.Core.Bool.{_&&_, cond}
 use mathlib.Core.List.{List}
 use Prim.Native.Nat.{ℕ, zero, _*_, _-_}
 use lib.ListN.{length, replicate}
