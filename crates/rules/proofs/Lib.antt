@@ -1,3 +1,14 @@
 pub mod Sums
 pub mod Lists
 pub mod Stands
+pub mod Signed
+pub mod Places
+pub mod Keep
+pub mod Outbidding
+pub mod Made
+pub mod Draw
+pub mod Booked
+pub mod Prices
+pub mod Settled
+pub mod Round
+pub mod Offers

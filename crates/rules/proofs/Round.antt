@@ -1,0 +1,158 @@
+-- The laws of one round. Assumes nothing.
+use mathlib.Core.Path.{_≡_, refl, _∙_, ap}
+use mathlib.Core.Bool.{Bool, true, false, cond}
+use mathlib.Core.List.{List}
+use Prim.Native.Nat.{ℕ, _+_, _*_, _%_, _≤_, _<_}
+use native.Mathlib.Omega.{arith}
+use lib.Dec.{ltb}
+use Rattle.rules.specs.declared.Place.{Place}
+use Rattle.rules.specs.declared.Outbid.{Outbid}
+use Rattle.rules.specs.declared.Auction.{Auction}
+use Rattle.rules.specs.Count.{sumUpTo}
+use Rattle.rules.specs.Answers.{closed}
+use Rattle.rules.specs.Settings.{targetOf, capOf, initialOf}
+use Rattle.rules.specs.Held.{deniedIn, heldIn, keptIn, held, ticked, freeOf, eligibility}
+use Rattle.rules.specs.Bid.{bidIn, recordOf, bidOn}
+use Rattle.rules.specs.Accept.{placeAt, acceptedAll, keptOf, riseOf, deem, column}
+use Rattle.rules.specs.Outbid.{deemIf, deemedUpTo}
+use Rattle.rules.specs.Round.{drawFits, afterStep2, afterStep4, calculated}
+use Rattle.rules.specs.Standing.{keptOn, isOpen}
+use Rattle.rules.proofs.Sums.{sum-ext, sum-six, sum-zero}
+use Rattle.rules.proofs.Stands.{Stands, Long}
+use Rattle.rules.proofs.Places.{deniedOf}
+use Rattle.rules.proofs.Outbidding.{deemed-exact}
+use Rattle.rules.proofs.Made.{AllAccepted, made-none}
+use Rattle.rules.proofs.Booked.{Booked, kept-end, out-end, unticked, kept-ticked, booked}
+use Rattle.rules.proofs.Prices.{PriceAfter}
+use Rattle.rules.proofs.Settled.{Closes, settled-stands, settled-long, settled-prices, settled-closes, settled-terms, settled-held, settled-kept, settled-eligibility}
+
+-- the denied tranches of bidder b on product p that step 3 deems bid, in the places that step 2 leaves
+abbrev pub deemedAt : List Place → ℕ → ℕ → ℕ
+deemedAt ps b p = cond (ltb 0 (riseOf (placeAt ps (b * 8 + p)))) (deniedOf (placeAt ps (b * 8 + p))) 0
+
+-- all that step 3 deems bid in a round, on the products that did not tick
+abbrev pub deemedIn : Auction → List ℕ → ℕ
+deemedIn a draw =
+    sumUpTo (λ p. cond (ticked a p) 0 (sumUpTo (λ b. deemedAt (afterStep2 a draw .places) b p) (a .terms .bidders))) (a .terms .products)
+
+module _ (a : Auction) (draw : List ℕ) (S : Stands a) (L : Long a) (op : isOpen a ≡ true)
+    (D : drawFits (a .terms .bidders) draw ≡ true) (A : AllAccepted a) where
+  B : Booked a (afterStep4 a draw (afterStep2 a draw .places))
+  B = booked a draw S L op D A
+
+  -- the terms stay
+  pub round-terms : calculated a draw .auction .terms ≡ a .terms
+  unfolding calculated
+  round-terms = settled-terms a _ S B
+
+  -- what stood stands
+  pub round-stands : Stands (calculated a draw .auction)
+  unfolding calculated
+  round-stands = settled-stands a _ S B
+
+  -- and its lists keep their lengths
+  pub round-long : Long (calculated a draw .auction)
+  unfolding calculated
+  round-long = settled-long a _ S B L
+
+  -- the filled part of no product, the lesser of held and target, falls
+  pub round-filled : (p x : ℕ) → p < a .terms .products → x ≤ targetOf (a .terms) p
+      → x ≤ held (a .records) (a .terms .bidders) p → x ≤ held (calculated a draw .auction .records) (a .terms .bidders) p
+  unfolding calculated
+  round-filled p x hp g h = omega (arith, settled-held a _ S B p hp, B .filled p x hp g h)
+
+  -- each bidder stays within the product caps
+  pub round-caps : (b p : ℕ) → b < a .terms .bidders → p < a .terms .products
+      → heldIn (recordOf (calculated a draw .auction) b p) ≤ capOf (a .terms) p
+  round-caps = rw round-terms at (round-stands .caps)
+
+  -- and, with f, within its initial eligibility
+  pub round-eligible : (b : ℕ) → b < a .terms .bidders
+      → sumUpTo (λ p. heldIn (recordOf (calculated a draw .auction) b p)) (a .terms .products)
+      + freeOf (calculated a draw .auction) b ≤ initialOf (a .terms) b
+  round-eligible = rw round-terms at (round-stands .eligible)
+
+  -- a bidder's eligibility after the round is what it bid and had denied before it
+  pub round-eligibility : (b : ℕ) → b < a .terms .bidders
+      → eligibility (calculated a draw .auction) b ≡ sumUpTo (λ p. bidIn (bidOn a b p) + deniedIn (recordOf a b p)) (a .terms .products)
+  unfolding calculated
+  round-eligibility b hb = settled-eligibility a _ S B b hb
+
+  -- where the round closes the auction
+  pub round-closes : calculated a draw .auction .phase ≡ closed → Closes a (calculated a draw .auction)
+  unfolding calculated
+  round-closes c = settled-closes a _ S B c
+
+  -- no price rises; it falls where more than the target is held and the next round opens, and nowhere else
+  pub round-prices : (p : ℕ) → p < a .terms .products → PriceAfter a (calculated a draw .auction) p
+  unfolding calculated
+  round-prices p hp = settled-prices a _ S B p hp
+
+  -- ---- the two counts
+
+  abbrev m : ℕ
+  m = a .terms .products
+
+  abbrev n : ℕ
+  n = a .terms .bidders
+
+  abbrev l2 : List Place
+  l2 = afterStep2 a draw .places
+
+  abbrev l3 : List Place
+  l3 = deemedUpTo (ticked a) l2 (n * 8)
+
+  abbrev o : Outbid
+  o = afterStep4 a draw l2
+
+  -- on a product that ticked nothing was kept before, and steps 3 and 4 leave what step 2 kept
+  kept-by : (p : ℕ) → p < m → (s : Bool) → ticked a p ≡ s
+      → (cond s (column keptOf (acceptedAll a) p n) 0 ≡ 0) × (cond s (column keptOf (o .places) p n) 0 ≡ cond s (column keptOf l2 p n) 0)
+  kept-by p hp true e = (made-none a S A p hp e, kept-ticked a draw S L op D A p hp e)
+  kept-by p hp false e = (refl, refl)
+
+  -- the count of step 2 is that of the kept tranches now on products that had ticked
+  pub round-kept : calculated a draw .kept
+      ≡ sumUpTo (λ p. cond (ticked a p) (keptOn (calculated a draw .auction) p) 0) (a .terms .products)
+  unfolding calculated
+  round-kept =
+      let u = sum-ext (λ p. cond (ticked a p) (column keptOf (acceptedAll a) p n) 0) (λ p. 0) m (λ p hp. kept-by p hp (ticked a p) refl .0) in
+      let v = sum-ext (λ p. cond (ticked a p) (keptOn (calculated a draw .auction) p) 0) (λ p. cond (ticked a p) (column keptOf l2 p n) 0) m
+      (λ p hp. ap (λ x. cond (ticked a p) x 0) (settled-kept a o S B p hp) ∙ kept-by p hp (ticked a p) refl .1) in
+      omega (arith, kept-end a draw S L op D A .counted, sum-zero m)
+
+  -- step 3 on a product that did not tick
+  deemed-here : (b p : ℕ) → b < n → p < m → ticked a p ≡ false
+      → keptOf (placeAt l3 (b * 8 + p)) + deemedAt l2 b p ≡ keptIn (recordOf a b p)
+  deemed-here b p hb hp e =
+      let z : (b * 8 + p) % 8 ≡ p = omega (arith, S .limits .products) in
+      let x = deemed-exact (ticked a) l2 (n * 8) (b * 8 + p) (kept-end a draw S L op D A .keepable .long) (omega (arith, S .limits .products))
+      ∙ ap (λ s. deemIf s (placeAt l2 (b * 8 + p))) (ap (ticked a) z ∙ e) in
+      by (ltb 0 (riseOf (placeAt l2 (b * 8 + p)))) (ap keptOf x)
+    where
+      by : (u : Bool) → keptOf (placeAt l3 (b * 8 + p)) ≡ keptOf (cond u (deem (placeAt l2 (b * 8 + p))) (placeAt l2 (b * 8 + p)))
+          → keptOf (placeAt l3 (b * 8 + p)) + cond u (deniedOf (placeAt l2 (b * 8 + p))) 0 ≡ keptIn (recordOf a b p)
+      by true k = omega (arith, unticked a draw S L op D A b p hb hp e)
+      by false k = omega (arith, unticked a draw S L op D A b p hb hp e)
+
+  -- what step 3 takes from the kept tranches of one product
+  deemed-on : (p : ℕ) → p < m → (s : Bool) → ticked a p ≡ s
+      → cond s 0 (column keptOf l3 p n) + cond s 0 (sumUpTo (λ b. deemedAt l2 b p) n) + 0 ≡ cond s 0 (keptOn a p) + 0 + 0
+  deemed-on p hp true e = refl
+  deemed-on p hp false e =
+      let x = sum-six (λ b. keptOf (placeAt l3 (b * 8 + p))) (λ b. deemedAt l2 b p) (λ b. 0) (λ b. keptIn (recordOf a b p)) (λ b. 0) (λ b. 0) n
+      (λ b hb. omega (arith, deemed-here b p hb hp e)) in
+      omega (arith, sum-zero n)
+
+  -- the count of step 4, those deemed bid in step 3 and those still kept on the other products are those kept there before
+  pub round-outbid : calculated a draw .outbid + deemedIn a draw
+      + sumUpTo (λ p. cond (ticked a p) 0 (keptOn (calculated a draw .auction) p)) (a .terms .products)
+      ≡ sumUpTo (λ p. cond (ticked a p) 0 (keptOn a p)) (a .terms .products)
+  unfolding calculated
+  round-outbid =
+      let x = sum-six (λ p. cond (ticked a p) 0 (column keptOf l3 p n)) (λ p. cond (ticked a p) 0 (sumUpTo (λ b. deemedAt l2 b p) n)) (λ p. 0)
+      (λ p. cond (ticked a p) 0 (keptOn a p)) (λ p. 0) (λ p. 0) m (λ p hp. deemed-on p hp (ticked a p) refl) in
+      let y = sum-ext (λ p. cond (ticked a p) 0 (keptOn (calculated a draw .auction) p))
+      (λ p. cond (ticked a p) 0 (column keptOf (o .places) p n)) m
+      (λ p hp. ap (λ x. cond (ticked a p) 0 x) (settled-kept a o S B p hp)) in
+      omega (arith, out-end a draw S L op D A .counted, sum-zero m)

@@ -1,0 +1,334 @@
+-- Step 5: closed, stopped, or the next round at the next prices. Assumes nothing.
+use mathlib.Core.Path.{_≡_, refl, sym, _∙_, ap, subst}
+use mathlib.Core.Bool.{Bool, true, false, cond}
+use mathlib.Core.List.{List}
+use Prim.Native.Nat.{ℕ, _+_, _*_, _-_, _/_, _%_, _^_, _≤_, _<_}
+use native.Mathlib.Omega.{arith}
+use native.Mathlib.Nat.{zero-div}
+use borrow.Author.Tests.{eqb-true, eqb-false, ne-eqb, eq-eqb, ltb-true, ltb-false, lt-ltb}
+use lib.ListN.{length, getD, replicate, length-replicate, getD-replicate}
+use lib.Dec.{eqb, ltb}
+use Rattle.rules.specs.declared.Record.{Record}
+use Rattle.rules.specs.declared.Outbid.{Outbid}
+use Rattle.rules.specs.declared.Auction.{Auction}
+use Rattle.rules.specs.Count.{sumUpTo, listOf}
+use Rattle.rules.specs.Answers.{bidsOpen, closed, stopped}
+use Rattle.rules.specs.Settings.{targetOf, startOf}
+use Rattle.rules.specs.Card.{noLine, lineZero}
+use Rattle.rules.specs.Held.{nothing, goingIn, deniedIn, retainedIn, exitIn, heldIn, keptIn, recordAt, held, aboveZero, standingOf, freeOf, eligibility, excess}
+use Rattle.rules.specs.Bid.{bidIn, recordOf, priceAt, beforeAt, onProduct, slotOf, bidOn}
+use Rattle.rules.specs.Accept.{placeAt, heldOf, keptOf, column, rowOf}
+use Rattle.rules.specs.Round.{atRest, onward, atBottom, stops, settled}
+use Rattle.rules.specs.Standing.{keptOn, recordZero, slotStands, phaseStands}
+use Rattle.rules.proofs.Sums.{sum-ext, sum-le, sum-ge, sum-add}
+use Rattle.rules.proofs.Lists.{clash, both, all-give, list-at, list-long}
+use Rattle.rules.proofs.Signed.{above-zero}
+use Rattle.rules.proofs.Stands.{Stands, Long}
+use Rattle.rules.proofs.Places.{worthOf}
+use Rattle.rules.proofs.Made.{NoRecord}
+use Rattle.rules.proofs.Booked.{Booked}
+use Rattle.rules.proofs.Prices.{cond-false, Priced, PriceAfter, nextPrices, nextBefores, next, next-none}
+
+-- where a round closes: no award above a target, the target where it was filled, and for each bidder no less than it bid
+pub record Closes (a z : Auction) : Type 0 where
+  pub within : (p : ℕ) → p < a .terms .products → held (z .records) (a .terms .bidders) p ≤ targetOf (a .terms) p
+  pub filled : (p : ℕ) → p < a .terms .products → targetOf (a .terms) p ≤ held (a .records) (a .terms .bidders) p
+      → held (z .records) (a .terms .bidders) p ≡ targetOf (a .terms) p
+  pub asked : (b : ℕ) → b < a .terms .bidders
+      → sumUpTo (λ p. bidIn (bidOn a b p)) (a .terms .products) ≤ sumUpTo (λ p. heldIn (recordOf z b p)) (a .terms .products)
+
+-- a record that holds nothing is 0
+zero-back : (r : Record) → NoRecord r → recordZero r ≡ true
+zero-back r N =
+    both (eq-eqb _ _ (N .going)) (both (eq-eqb _ _ (N .denied)) (both (eq-eqb _ _ (N .retained)) (eq-eqb _ _ (N .exit))))
+
+module _ (a : Auction) (o : Outbid) where
+  abbrev m : ℕ
+  m = a .terms .products
+
+  abbrev n : ℕ
+  n = a .terms .bidders
+
+  abbrev goal : ℕ → ℕ
+  goal = targetOf (a .terms)
+
+  abbrev rest : Auction
+  rest = atRest closed a o
+
+  -- the book o in some phase and round, at some prices
+  abbrev with : ℕ → ℕ → List ℕ → List ℕ → Auction
+  with ph rd price before = record {
+    phase = ph;
+    round = rd;
+    filed = 0;
+    terms = a .terms;
+    price = price;
+    before = before;
+    free = o .free;
+    records = listOf (λ k. placeAt (o .places) k .holds) 256;
+    bids = replicate 256 noLine;
+  }
+
+  abbrev prices : List ℕ
+  prices = nextPrices a o
+
+  abbrev befores : List ℕ
+  befores = nextBefores a o
+
+  settled-by : (P : Auction → Type 0) (x y : Bool)
+      → (x ≡ true → P (with closed (a .round) (a .price) (a .before)))
+      → (x ≡ false → y ≡ true → P (with stopped (a .round) (a .price) (a .before)))
+      → (x ≡ false → y ≡ false → P (with bidsOpen (a .round + 1) prices befores))
+      → P (cond x rest (cond y (atRest stopped a o) (onward rest)))
+  settled-by P true y f g h = f refl
+  settled-by P false true f g h = g refl refl
+  settled-by P false false f g h = h refl refl
+
+  -- what holds of all three ends holds of the settled auction
+  settled-each : (P : Auction → Type 0)
+      → (excess rest ≡ 0 → P (with closed (a .round) (a .price) (a .before)))
+      → (0 < excess rest → stops rest ≡ true → P (with stopped (a .round) (a .price) (a .before)))
+      → (0 < excess rest → stops rest ≡ false → P (with bidsOpen (a .round + 1) prices befores))
+      → P (settled a o)
+  settled-each P f g h =
+      settled-by P (eqb (excess rest) 0) (stops rest) (λ e. f (eqb-true _ _ e)) (λ e. g (some e)) (λ e. h (some e))
+    where
+      some : eqb (excess rest) 0 ≡ false → 0 < excess rest
+      some e = let d = eqb-false (excess rest) 0 e in omega (arith, d)
+
+  module _ (S : Stands a) (B : Booked a o) where
+    -- the records, and their sums, are those of the book
+    at : (b p : ℕ) → b < n → p < m → recordAt (rest .records) (b * 8 + p) ≡ placeAt (o .places) (b * 8 + p) .holds
+    at b p hb hp = list-at (λ k. placeAt (o .places) k .holds) nothing 256 (b * 8 + p) (omega (arith, S .limits .products, S .limits .bidders))
+
+    held-is : (p : ℕ) → p < m → held (rest .records) n p ≡ column heldOf (o .places) p n
+    held-is p hp = sum-ext _ _ n (λ b hb. ap heldIn (at b p hb hp))
+
+    kept-is : (p : ℕ) → p < m → keptOn rest p ≡ column keptOf (o .places) p n
+    kept-is p hp = sum-ext _ _ n (λ b hb. ap keptIn (at b p hb hp))
+
+    row-is : (b : ℕ) → b < n → sumUpTo (λ p. heldIn (recordOf rest b p)) m ≡ rowOf heldOf (o .places) b m
+    row-is b hb = sum-ext _ _ m (λ p hp. ap heldIn (at b p hb hp))
+
+    -- no cards are left
+    slots-none : (ph rd : ℕ) (pr be : List ℕ) (b : ℕ) → b < 32 → slotStands (with ph rd pr be) b ≡ true
+    slots-none ph rd pr be b hb =
+        rw (zero-div (2 ^ b)) (
+        all-give (λ p. cond (ltb p 0) true (lineZero (onProduct (slotOf (with ph rd pr be) b) p))) 8 (λ p hp. by p hp (ltb p 0)))
+      where
+        by : (p : ℕ) → p < 8 → (s : Bool) → cond s true (lineZero (onProduct (slotOf (with ph rd pr be) b) p)) ≡ true
+        by p hp true = refl
+        by p hp false =
+            ap lineZero (
+            list-at (λ p. getD (replicate 256 noLine) (b * 8 + p) noLine) noLine 8 p hp
+            ∙ getD-replicate 256 (b * 8 + p) noLine noLine (omega arith))
+
+    -- what the phase, round and prices at the end have to meet
+    record Meets (ph rd : ℕ) (pr be : List ℕ) : Type 0 where
+      some-round : 1 ≤ rd
+      round : rd ≤ 4095
+      within : (p : ℕ) → p < m → (1 ≤ getD pr p 0) × (getD pr p 0 ≤ getD be p 0) × (getD be p 0 ≤ startOf (a .terms) p)
+      fell : (p : ℕ) → p < m → eqb ph bidsOpen ≡ true → goal p < held (rest .records) n p → getD pr p 0 < getD be p 0
+      same : (p : ℕ) → p < m → held (rest .records) n p ≡ goal p → (getD pr p 0 ≡ priceAt a p) × (getD be p 0 ≡ beforeAt a p)
+      none : (p : ℕ) → m ≤ p → p < 8 → (getD pr p 0 ≡ 0) × (getD be p 0 ≡ 0)
+      phase : phaseStands (with ph rd pr be) ≡ true
+
+    module _ (ph rd : ℕ) (pr be : List ℕ) (M : Meets ph rd pr be) where
+      -- past the bidders and products in use the records are 0
+      zero-past : (k : ℕ) → k < 256 → (k / 8 < n → m ≤ k % 8) → recordZero (recordAt (rest .records) k) ≡ true
+      zero-past k hk out =
+          let e : k ≡ k / 8 * 8 + k % 8 = omega arith in
+          let N = subst (λ k. NoRecord (placeAt (o .places) k .holds)) (sym e) (B .bare (k / 8) (k % 8) (omega arith) (omega arith) out) in
+          rw (list-at (λ k. placeAt (o .places) k .holds) nothing 256 k hk) (zero-back _ N)
+
+      -- the exit prices are those of the book, at prices that have not moved
+      exits-of : (b p : ℕ) → b < n → p < m → 0 < retainedIn (recordOf rest b p)
+          → (getD pr p 0 < exitIn (recordOf rest b p)) × (exitIn (recordOf rest b p) ≤ getD be p 0)
+      exits-of b p hb hp h =
+          let e = at b p hb hp in
+          let r = ap retainedIn e in
+          let x = ap exitIn e in
+          let w = B .exits b p hb hp (omega arith) in
+          let g = sum-ge (λ b. keptOf (placeAt (o .places) (b * 8 + p))) n b hb in
+          let k = B .kept p hp (omega arith) in
+          let v = M .same p hp (held-is p hp ∙ k .1) in
+          (omega (arith, w, v), omega (arith, w, v))
+
+      -- every clause of standing
+      stands-with : Stands (with ph rd pr be)
+      stands-with = record {
+        within = S .within;
+        limits = S .limits;
+        some-round = M .some-round;
+        round = M .round;
+        prices = M .within;
+        fell = M .fell;
+        kept = λ p hp h.
+            let k = B .kept p hp (omega (arith, kept-is p hp)) in
+            let v = M .same p hp (held-is p hp ∙ k .1) in
+            (omega (arith, k, v), held-is p hp ∙ k .1);
+        no-price = M .none;
+        exits = exits-of;
+        no-exit = λ b p hb hp e.
+            let q = at b p hb hp in
+            ap exitIn q ∙ B .no-exit b p hb hp (sym (ap retainedIn q) ∙ e);
+        caps = λ b p hb hp. rw (at b p hb hp) (B .caps b p hb hp);
+        no-bidder = λ k hk h. zero-past k hk (λ l. absurd (let z : ⊥ = omega arith in z));
+        no-product = λ k hk h. zero-past k hk (λ l. h);
+        eligible = λ b hb. omega (arith, row-is b hb, B .eligible b hb);
+        no-free = B .no-free;
+        slots = slots-none ph rd pr be;
+        phase = M .phase;
+      }
+
+    -- closed or stopped: round and prices stay
+    ends : (ph : ℕ) → eqb ph bidsOpen ≡ false → phaseStands (with ph (a .round) (a .price) (a .before)) ≡ true
+        → Meets ph (a .round) (a .price) (a .before)
+    ends ph e f = record {
+      some-round = S .some-round;
+      round = S .round;
+      within = S .prices;
+      fell = λ p hp t. clash t e;
+      same = λ p hp q. (refl, refl);
+      none = S .no-price;
+      phase = f;
+    }
+
+    -- open: the next round at the next prices
+    goes-on : 0 < excess rest → stops rest ≡ false → Meets bidsOpen (a .round + 1) prices befores
+    goes-on h e =
+        let r = eqb-false (a .round) 4095 (cond-false (atBottom rest) _ e .1) in record {
+          some-round = omega arith;
+          round = omega (arith, r, S .round);
+          within = λ p hp. within-by p hp (ltb (goal p) (held (rest .records) n p)) refl;
+          fell = λ p hp t l. let x = next a o S p hp e .fell l in omega (arith, x);
+          same = λ p hp q. next a o S p hp e .stayed (omega arith);
+          none = next-none a o S;
+          phase = rw (ne-eqb (a .round + 1) 1 (λ q. omega (arith, S .some-round))) (lt-ltb 0 (excess rest) h);
+        }
+      where
+        within-by : (p : ℕ) → p < m → (s : Bool) → ltb (goal p) (held (rest .records) n p) ≡ s
+            → (1 ≤ getD prices p 0) × (getD prices p 0 ≤ getD befores p 0) × (getD befores p 0 ≤ startOf (a .terms) p)
+        within-by p hp true f =
+            let x = next a o S p hp e .fell (ltb-true _ _ f) in
+            let y = S .prices p hp in
+            (omega (arith, x), omega (arith, x), omega (arith, x, y))
+        within-by p hp false f =
+            let x = next a o S p hp e .stayed (ltb-false _ _ f) in
+            let y = S .prices p hp in
+            (omega (arith, x, y), omega (arith, x, y), omega (arith, x, y))
+
+    -- what stood stands
+    pub settled-stands : Stands (settled a o)
+    settled-stands =
+        settled-each Stands
+        (λ e. stands-with closed _ _ _ (ends closed refl (eq-eqb _ _ e)))
+        (λ h t. stands-with stopped _ _ _ (ends stopped refl (both (lt-ltb 0 (excess rest) h) t)))
+        (λ h e. stands-with bidsOpen _ _ _ (goes-on h e))
+
+    -- the lists keep their lengths
+    pub settled-long : Long a → Long (settled a o)
+    settled-long L =
+        settled-each Long (λ e. long _ _ _ _ (L .price) (L .before)) (λ h t. long _ _ _ _ (L .price) (L .before))
+        (λ h e. long _ _ _ _ (list-long _ 8) (list-long _ 8))
+      where
+        long : (ph rd : ℕ) (pr be : List ℕ) → length pr ≡ 8 → length be ≡ 8 → Long (with ph rd pr be)
+        long ph rd pr be p q = record {
+          item = L .item;
+          eligibility = L .eligibility;
+          row = L .row;
+          price = p;
+          before = q;
+          free = B .long-free;
+          records = list-long (λ k. placeAt (o .places) k .holds) 256;
+          bids = length-replicate 256 noLine;
+        }
+
+    -- the prices after
+    pub settled-prices : (p : ℕ) → p < a .terms .products → PriceAfter a (settled a o) p
+    settled-prices p hp =
+        settled-each (λ z. PriceAfter a z p) (λ e. rested closed refl) (λ h t. rested stopped refl)
+        (λ h e. open-by (next a o S p hp e) (ltb (goal p) (held (rest .records) n p)) refl)
+      where
+        rested : (ph : ℕ) → eqb ph bidsOpen ≡ false → PriceAfter a (with ph (a .round) (a .price) (a .before)) p
+        rested ph e = record {
+          some = S .prices p hp .0;
+          no-rise = omega arith;
+          fell = λ t. clash t e;
+          stayed = λ t h. (refl, refl);
+          ended = λ t. (refl, refl);
+        }
+
+        open-by : Priced a p (held (rest .records) n p) (getD prices p 0) (getD befores p 0)
+            → (s : Bool) → ltb (goal p) (held (rest .records) n p) ≡ s → PriceAfter a (with bidsOpen (a .round + 1) prices befores) p
+        open-by N true f =
+            let x = N .fell (ltb-true _ _ f) in record {
+              some = x .0;
+              no-rise = omega (arith, x);
+              fell = λ t h. (x .1, x .2);
+              stayed = λ t h. N .stayed h;
+              ended = λ t. clash refl t;
+            }
+        open-by N false f =
+            let x = N .stayed (ltb-false _ _ f) in
+            let y = S .prices p hp in record {
+              some = omega (arith, x, y);
+              no-rise = omega (arith, x);
+              fell = λ t h. let z = N .fell h in (z .1, z .2);
+              stayed = λ t h. x;
+              ended = λ t. clash refl t;
+            }
+
+    -- closed, there is no excess: nothing above target, and no f
+    pub settled-closes : settled a o .phase ≡ closed → Closes a (settled a o)
+    settled-closes =
+        settled-each (λ z. z .phase ≡ closed → Closes a z) (λ e c. closes e)
+        (λ h t c. absurd (let z : ⊥ = omega arith in z)) (λ h e c. absurd (let z : ⊥ = omega arith in z))
+      where
+        low : excess rest ≡ 0 → (p : ℕ) → p < m → held (rest .records) n p ≤ goal p
+        low e p hp =
+            let x = sum-ge (λ p. aboveZero (standingOf rest p)) m p hp in
+            omega (arith, above-zero (held (rest .records) n p) (goal p))
+
+        closes : excess rest ≡ 0 → Closes a (with closed (a .round) (a .price) (a .before))
+        closes e = record {
+          within = low e;
+          filled = λ p hp h. omega (arith, low e p hp, held-is p hp, B .filled p (goal p) hp (omega arith) h);
+          asked = λ b hb.
+              let x = sum-ge (freeOf rest) n b hb in
+              let y = sum-add (λ p. bidIn (bidOn a b p)) (λ p. deniedIn (recordOf a b p)) m in
+              let z = sum-le (λ p. worthOf (placeAt (o .places) (b * 8 + p))) (λ p. heldOf (placeAt (o .places) (b * 8 + p))) m
+              (λ p hp. omega arith) in
+              omega (arith, B .worth b hb, row-is b hb);
+        }
+
+    -- what is the same in all three ends
+    pub settled-terms : settled a o .terms ≡ a .terms
+    settled-terms = settled-each (λ z. z .terms ≡ a .terms) (λ e. refl) (λ h t. refl) (λ h e. refl)
+
+    pub settled-record : (b p : ℕ) → b < a .terms .bidders → p < a .terms .products
+        → recordOf (settled a o) b p ≡ placeAt (o .places) (b * 8 + p) .holds
+    settled-record b p hb hp =
+        let e = at b p hb hp in
+        settled-each (λ z. recordOf z b p ≡ placeAt (o .places) (b * 8 + p) .holds) (λ _. e) (λ _ _. e) (λ _ _. e)
+
+    pub settled-held : (p : ℕ) → p < a .terms .products
+        → held (settled a o .records) (a .terms .bidders) p ≡ column heldOf (o .places) p (a .terms .bidders)
+    settled-held p hp =
+        let e = held-is p hp in
+        settled-each (λ z. held (z .records) n p ≡ column heldOf (o .places) p n) (λ _. e) (λ _ _. e) (λ _ _. e)
+
+    pub settled-kept : (p : ℕ) → p < a .terms .products
+        → keptOn (settled a o) p ≡ column keptOf (o .places) p (a .terms .bidders)
+    settled-kept p hp =
+        let e = kept-is p hp in
+        settled-each (λ z. keptOn z p ≡ column keptOf (o .places) p n) (λ _. e) (λ _ _. e) (λ _ _. e)
+
+    -- a bidder's eligibility is what it bid and had denied
+    pub settled-eligibility : (b : ℕ) → b < a .terms .bidders
+        → eligibility (settled a o) b ≡ sumUpTo (λ p. bidIn (bidOn a b p) + deniedIn (recordOf a b p)) (a .terms .products)
+    settled-eligibility b hb =
+        let x = sum-ext (λ p. goingIn (recordOf rest b p) + deniedIn (recordOf rest b p)) (λ p. worthOf (placeAt (o .places) (b * 8 + p))) m
+        (λ p hp. ap (λ r. goingIn r + deniedIn r) (at b p hb hp)) in
+        let e : eligibility rest b ≡ sumUpTo (λ p. bidIn (bidOn a b p) + deniedIn (recordOf a b p)) m = omega (arith, B .worth b hb) in
+        settled-each (λ z. eligibility z b ≡ sumUpTo (λ p. bidIn (bidOn a b p) + deniedIn (recordOf a b p)) m) (λ _. e) (λ _ _. e) (λ _ _. e)
