@@ -1,0 +1,199 @@
+-- Every field of a standing state fits its bytes, so that what is stored of one is loaded. Assumes nothing.
+use mathlib.Core.Path.{_≡_, refl, subst}
+use mathlib.Core.Bool.{Bool, true, false, cond}
+use mathlib.Core.List.{List}
+use Prim.Native.Nat.{ℕ, _+_, _*_, _/_, _%_, _≤_, _<_}
+use native.Mathlib.Omega.{arith}
+use borrow.Author.Tests.{eqb-true, ltb-true, ltb-false, le-ltb}
+use lib.ListN.{getD}
+use lib.Dec.{eqb, ltb}
+use Rattle.rules.specs.declared.Line.{Line}
+use Rattle.rules.specs.declared.Record.{Record}
+use Rattle.rules.specs.declared.Auction.{Auction}
+use Rattle.rules.specs.Answers.{closed, stopped}
+use Rattle.rules.specs.Settings.{targetOf, capOf, startOf, initialOf, decrementOf}
+use Rattle.rules.specs.Card.{noLine, lineFits, lineZero}
+use Rattle.rules.specs.Held.{goingIn, deniedIn, retainedIn, exitIn, heldIn, recordAt, place, ticked, freeOf}
+use Rattle.rules.specs.Bid.{bidIn, withdrawnIn, exitOn, recordOf, priceAt, beforeAt, onProduct, judged, hasFiled, slotOf}
+use Rattle.rules.specs.Standing.{isOpen, recordZero, zeroFrom}
+use Rattle.rules.specs.Layout.{stored, loaded, allZero}
+use Rattle.rules.proofs.Sums.{sum-le}
+use Rattle.rules.proofs.Lists.{all-take, list-at}
+use Rattle.rules.proofs.Tests.{told, shown}
+use Rattle.rules.proofs.Stands.{Long, Stands, Accepted}
+use Rattle.rules.proofs.Judged.{judged-take}
+use Rattle.rules.proofs.Priorities.{sum-const, priority-small}
+use Rattle.rules.proofs.Storing.{Fits, loads, stored-some}
+
+fits-if : (l : Line) → bidIn l < 256 → withdrawnIn l < 256 → exitOn l < 131072 → l .priority < 8 → lineFits l ≡ true
+fits-if l b w x p = search shown
+
+zero-fits : (l : Line) → lineZero l ≡ true → lineFits l ≡ true
+zero-fits l z =
+    let b : bidIn l ≡ 0 = search told in
+    let w : withdrawnIn l ≡ 0 = search told in
+    let x : exitOn l ≡ 0 = search told in
+    let p : l .priority ≡ 0 = search told in
+    fits-if l (omega arith) (omega arith) (omega arith) (omega arith)
+
+-- a line past those in use
+past-fits : (ls : List Line) (n : ℕ) → zeroFrom ls n ≡ true → (p : ℕ) → n ≤ p → p < 8 → lineFits (onProduct ls p) ≡ true
+past-fits ls n z p h l =
+    zero-fits (onProduct ls p) (rw (le-ltb p n h) at (all-take (λ p. cond (ltb p n) true (lineZero (onProduct ls p))) 8 z p l))
+
+module _ (a : Auction) (S : Stands a) where
+  exit-by : (b p : ℕ) (ls : List Line)
+      → Accepted (a .terms .products) (ticked a) (capOf (a .terms)) (priceAt a) (beforeAt a) (recordOf a b) (onProduct ls) (freeOf a b)
+      → p < a .terms .products → (t : Bool) → ltb 0 (withdrawnIn (onProduct ls p)) ≡ t → exitOn (onProduct ls p) < 131072
+  exit-by b p ls A h true e = omega (arith, A .exits p h (ltb-true _ _ e), S .prices p h, S .limits .start p h)
+  exit-by b p ls A h false e = omega (arith, A .no-exit p h (omega (arith, ltb-false 0 (withdrawnIn (onProduct ls p)) e)))
+
+  -- a line that is accepted
+  accepted-fits : (b p : ℕ) (ls : List Line) → b < a .terms .bidders → p < a .terms .products → judged a b ls ≡ 0
+      → lineFits (onProduct ls p) ≡ true
+  accepted-fits b p ls hb hp e =
+      let A = judged-take a b ls e in
+      let c = A .caps p hp in
+      let w = A .withdrawn p hp in
+      let h = S .caps b p hb hp in
+      let m = S .limits .cap p hp in
+      let t = S .limits .target p hp in
+      fits-if (onProduct ls p) (omega arith) (omega arith) (exit-by b p ls A hp (ltb 0 (withdrawnIn (onProduct ls p))) refl)
+      (priority-small A (S .limits .products) p hp)
+
+  slot-by : (b p : ℕ) → b < 32 → p < 8 → (t u : Bool) → hasFiled a b ≡ t → ltb p (a .terms .products) ≡ u
+      → lineFits (onProduct (slotOf a b) p) ≡ true
+  slot-by b p hb hp true true e f =
+      let x = rw e at (S .slots b hb) in
+      accepted-fits b p (slotOf a b) (search told) (ltb-true _ _ f) (search told)
+  slot-by b p hb hp true false e f =
+      let x = rw e at (S .slots b hb) in
+      past-fits (slotOf a b) (a .terms .products) (search told) p (ltb-false _ _ f) hp
+  slot-by b p hb hp false u e f = past-fits (slotOf a b) 0 (rw e at (S .slots b hb)) p (omega arith) hp
+
+  -- every line of a standing state fits a card
+  pub lines-fit : (k : ℕ) → k < 256 → lineFits (getD (a .bids) k noLine) ≡ true
+  lines-fit k h =
+      let z : k / 8 * 8 + k % 8 ≡ k = omega arith in
+      let x = slot-by (k / 8) (k % 8) (omega arith) (omega arith) (hasFiled a (k / 8)) (ltb (k % 8) (a .terms .products)) refl refl in
+      rw (list-at (λ p. getD (a .bids) (place (k / 8) p) noLine) noLine 8 (k % 8) (omega arith), z) at x
+
+  statewide-most : a .terms .statewide .0 ≤ 1600
+  statewide-most =
+      let s = sum-le (targetOf (a .terms)) (λ p. 200) (a .terms .products) (λ p h. S .limits .target p h .1) in
+      omega (arith, sum-const 200 (a .terms .products), S .limits .statewide, S .limits .products)
+
+  product-by : (p : ℕ) → p < 8 → (t : Bool) → ltb p (a .terms .products) ≡ t
+      → (targetOf (a .terms) p ≤ 200) × (capOf (a .terms) p ≤ 200) × (startOf (a .terms) p ≤ 99999) × (priceAt a p ≤ 99999) × (beforeAt a p ≤ 99999)
+  product-by p h true e =
+      let l = ltb-true p (a .terms .products) e in
+      omega (arith, S .limits .target p l, S .limits .cap p l, S .limits .start p l, S .prices p l)
+  product-by p h false e =
+      let l = ltb-false p (a .terms .products) e in
+      omega (arith, S .limits .no-item p l h, S .no-price p l h)
+
+  -- the amounts of one product
+  pub product-small : (p : ℕ) → p < 8
+      → (targetOf (a .terms) p ≤ 200) × (capOf (a .terms) p ≤ 200) × (startOf (a .terms) p ≤ 99999) × (priceAt a p ≤ 99999) × (beforeAt a p ≤ 99999)
+  product-small p h = product-by p h (ltb p (a .terms .products)) refl
+
+  bidder-by : (b : ℕ) → b < 32 → (t : Bool) → ltb b (a .terms .bidders) ≡ t → (initialOf (a .terms) b ≤ 1600) × (freeOf a b ≤ 1600)
+  bidder-by b h true e =
+      let l = ltb-true b (a .terms .bidders) e in
+      omega (arith, statewide-most, S .limits .initial b l, S .eligible b l)
+  bidder-by b h false e =
+      let l = ltb-false b (a .terms .bidders) e in
+      omega (arith, S .limits .no-bidder b l h, S .no-free b l h)
+
+  -- of one bidder
+  pub bidder-small : (b : ℕ) → b < 32 → (initialOf (a .terms) b ≤ 1600) × (freeOf a b ≤ 1600)
+  bidder-small b h = bidder-by b h (ltb b (a .terms .bidders)) refl
+
+  decrement-by : (i : ℕ) → i < 8 → (t : Bool) → ltb i (a .terms .rows) ≡ t → decrementOf (a .terms) i ≤ 500
+  decrement-by i h true e = S .limits .decrement i (ltb-true _ _ e) .1
+  decrement-by i h false e = omega (arith, S .limits .no-row i (ltb-false _ _ e) h)
+
+  abbrev Small : Record → Type 0
+  Small r = (heldIn r ≤ 200) × (exitIn r ≤ 99999)
+
+  zero-small : (r : Record) → recordZero r ≡ true → Small r
+  zero-small r z =
+      let g : goingIn r ≡ 0 = search told in
+      let d : deniedIn r ≡ 0 = search told in
+      let n : retainedIn r ≡ 0 = search told in
+      let x : exitIn r ≡ 0 = search told in
+      omega arith
+
+  exit-of : (b p : ℕ) → b < a .terms .bidders → p < a .terms .products → (t : Bool) → ltb 0 (retainedIn (recordOf a b p)) ≡ t
+      → Small (recordOf a b p)
+  exit-of b p hb hp true e =
+      omega (arith, S .exits b p hb hp (ltb-true _ _ e), S .prices p hp, S .limits .start p hp, S .caps b p hb hp, S .limits .cap p hp, S .limits .target p hp)
+  exit-of b p hb hp false e =
+      omega (arith, S .no-exit b p hb hp (omega (arith, ltb-false 0 (retainedIn (recordOf a b p)) e)), S .caps b p hb hp, S .limits .cap p hp, S .limits .target p hp)
+
+  record-by : (k : ℕ) → k < 256 → (t u : Bool) → ltb (k / 8) (a .terms .bidders) ≡ t → ltb (k % 8) (a .terms .products) ≡ u
+      → Small (recordAt (a .records) k)
+  record-by k l true true e f =
+      let z : k / 8 * 8 + k % 8 ≡ k = omega arith in
+      subst (λ i. Small (recordAt (a .records) i)) z
+      (exit-of (k / 8) (k % 8) (ltb-true _ _ e) (ltb-true _ _ f) (ltb 0 (retainedIn (recordOf a (k / 8) (k % 8)))) refl)
+  record-by k l true false e f = zero-small (recordAt (a .records) k) (S .no-product k l (ltb-false _ _ f))
+  record-by k l false u e f = zero-small (recordAt (a .records) k) (S .no-bidder k l (ltb-false _ _ e))
+
+  -- of one record
+  pub record-small : (k : ℕ) → k < 256 → (heldIn (recordAt (a .records) k) ≤ 200) × (exitIn (recordAt (a .records) k) ≤ 99999)
+  record-small k h = record-by k h (ltb (k / 8) (a .terms .bidders)) (ltb (k % 8) (a .terms .products)) refl refl
+
+  phase-by : (t u : Bool) → isOpen a ≡ t → eqb (a .phase) closed ≡ u → (1 ≤ a .phase) × (a .phase ≤ 3)
+  phase-by true u e f = omega (arith, eqb-true (a .phase) 1 e)
+  phase-by false true e f = omega (arith, eqb-true (a .phase) 2 f)
+  phase-by false false e f =
+      let x = rw (e, f) at (S .phase) in
+      let z : a .phase ≡ stopped = search told in
+      omega arith
+
+  -- open, closed or stopped
+  pub phase-small : (1 ≤ a .phase) × (a .phase ≤ 3)
+  phase-small = phase-by (isOpen a) (eqb (a .phase) closed) refl refl
+
+  line-small : (k : ℕ) → k < 256
+      → (bidIn (getD (a .bids) k noLine) < 256) × (withdrawnIn (getD (a .bids) k noLine) < 256) × (exitOn (getD (a .bids) k noLine) < 131072) × (getD (a .bids) k noLine .priority < 8)
+  line-small k h = let x = lines-fit k h in search told
+
+  -- the fields of a standing state fit their bytes; of the bitmap it is said, since its bits past 32 are no bidder's
+  pub fits : a .filed < 4294967296 → Fits a
+  fits h = record {
+    phase = omega (arith, phase-small);
+    unit = omega (arith, S .limits .unit);
+    products = omega (arith, S .limits .products);
+    bidders = omega (arith, S .limits .bidders);
+    rows = omega (arith, S .limits .rows);
+    round = omega (arith, S .round);
+    statewide = omega (arith, statewide-most);
+    filed = h;
+    target = λ p l. omega (arith, product-small p l);
+    cap = λ p l. omega (arith, product-small p l);
+    start = λ p l. omega (arith, product-small p l);
+    price = λ p l. omega (arith, product-small p l);
+    before = λ p l. omega (arith, product-small p l);
+    initial = λ b l. omega (arith, bidder-small b l);
+    free = λ b l. omega (arith, bidder-small b l);
+    percent = λ i l. omega (arith, S .limits .percent i l);
+    decrement = λ i l. omega (arith, decrement-by i l (ltb i (a .terms .rows)) refl);
+    going = λ k l. omega (arith, record-small k l);
+    denied = λ k l. omega (arith, record-small k l);
+    retained = λ k l. omega (arith, record-small k l);
+    exit = λ k l. omega (arith, record-small k l);
+    bid = λ k l. line-small k l .0;
+    withdrawn = λ k l. line-small k l .1;
+    leaving = λ k l. omega (arith, line-small k l);
+    priority = λ k l. omega (arith, line-small k l);
+  }
+
+  -- a standing state that is stored is loaded
+  pub standing-loads : Long a → a .filed < 4294967296 → loaded (stored a) ≡ a
+  standing-loads L h = loads a L (fits h)
+
+  -- and is not taken for an issued one
+  pub standing-some : allZero (stored a) ≡ false
+  standing-some = stored-some a (phase-small .0) (omega (arith, phase-small))

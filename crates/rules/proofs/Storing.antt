@@ -1,0 +1,343 @@
+-- What is stored is loaded. Assumes nothing.
+use mathlib.Core.Path.{_≡_, refl, sym, _∙_, ap, ap₂}
+use mathlib.Core.Bool.{Bool, true, false}
+use mathlib.Core.List.{List, [], _∷_, _++_}
+use Prim.Native.Nat.{ℕ, zero, suc, _+_, _-_, _*_, _/_, _%_, _≤_, _<_}
+use native.Mathlib.Omega.{arith}
+use native.Mathlib.Nat.{zero-mul, suc-mul, mul-le-mul-right}
+use borrow.Author.Tests.{eqb-true, eqb-false, ltb-true, ltb-false, ne-eqb}
+use lib.ListN.{length, getD, length-append, List·getD-append}
+use lib.Seq.{getD-append-add}
+use lib.Pow.{shr-shr}
+use lib.Dec.{eqb, ltb}
+use Rattle.rules.specs.declared.Auction.{Auction}
+use Rattle.rules.specs.Layout.{bytesUpTo, headBytes, productBytes, bidderBytes, rowBytes, recordBytes, lineBytes, stored, read1, read2, read3, read4, recordFrom, lineFrom, termsFrom, loaded, allZero}
+use Rattle.rules.specs.Card.{noLine}
+use Rattle.rules.specs.Settings.{item, noItem, row, noRow, targetOf, capOf, startOf, initialOf, percentOf, decrementOf}
+use Rattle.rules.specs.Held.{nothing, goingIn, deniedIn, retainedIn, exitIn, recordAt, freeOf}
+use Rattle.rules.specs.Bid.{bidIn, withdrawnIn, exitOn, priceAt, beforeAt}
+use Rattle.rules.specs.Units.{tranches}
+use Rattle.rules.proofs.Lists.{list-is, list-long, not-all}
+use Rattle.rules.proofs.Stands.{Long}
+
+-- every field fits its bytes
+pub record Fits (a : Auction) : Type 0 where
+  pub phase : a .phase < 256
+  pub unit : a .terms .unit < 256
+  pub products : a .terms .products < 256
+  pub bidders : a .terms .bidders < 256
+  pub rows : a .terms .rows < 256
+  pub round : a .round < 65536
+  pub statewide : a .terms .statewide .0 < 65536
+  pub filed : a .filed < 4294967296
+  pub target : (p : ℕ) → p < 8 → targetOf (a .terms) p < 256
+  pub cap : (p : ℕ) → p < 8 → capOf (a .terms) p < 256
+  pub start : (p : ℕ) → p < 8 → startOf (a .terms) p < 16777216
+  pub price : (p : ℕ) → p < 8 → priceAt a p < 16777216
+  pub before : (p : ℕ) → p < 8 → beforeAt a p < 16777216
+  pub initial : (b : ℕ) → b < 32 → initialOf (a .terms) b < 65536
+  pub free : (b : ℕ) → b < 32 → freeOf a b < 65536
+  pub percent : (i : ℕ) → i < 8 → percentOf (a .terms) i < 65536
+  pub decrement : (i : ℕ) → i < 8 → decrementOf (a .terms) i < 65536
+  pub going : (k : ℕ) → k < 256 → goingIn (recordAt (a .records) k) < 256
+  pub denied : (k : ℕ) → k < 256 → deniedIn (recordAt (a .records) k) < 256
+  pub retained : (k : ℕ) → k < 256 → retainedIn (recordAt (a .records) k) < 256
+  pub exit : (k : ℕ) → k < 256 → exitIn (recordAt (a .records) k) < 16777216
+  pub bid : (k : ℕ) → k < 256 → bidIn (getD (a .bids) k noLine) < 256
+  pub withdrawn : (k : ℕ) → k < 256 → withdrawnIn (getD (a .bids) k noLine) < 256
+  pub leaving : (k : ℕ) → k < 256 → exitOn (getD (a .bids) k noLine) < 16777216
+  pub priority : (k : ℕ) → k < 256 → getD (a .bids) k noLine .priority < 256
+
+-- ---- parts of one width
+
+module _ (part : ℕ → List ℕ) (w : ℕ) (wide : (k : ℕ) → length (part k) ≡ w) where
+  -- how long n parts are
+  pub parts-long : (n : ℕ) → length (bytesUpTo part n) ≡ n * w
+  unfolding bytesUpTo
+  parts-long zero = sym (zero-mul w)
+  parts-long (suc n) = length-append (bytesUpTo part n) (part n) ∙ ap₂ _+_ (parts-long n) (wide n) ∙ sym (suc-mul n w)
+
+  at-by : (n k j : ℕ) → k < suc n → j < w → (k < n → getD (bytesUpTo part n) (k * w + j) 0 ≡ getD (part k) j 0)
+      → (t : Bool) → eqb k n ≡ t → getD (bytesUpTo part n ++ part n) (k * w + j) 0 ≡ getD (part k) j 0
+  at-by n k j l h ih true e =
+      let q : k ≡ n = eqb-true k n e in
+      rw (q, ← parts-long n) (getD-append-add (bytesUpTo part n) (part n) j 0)
+  at-by n k j l h ih false e =
+      let q = eqb-false k n e in
+      let g : k < n = omega (arith, q) in
+      List·getD-append (bytesUpTo part n) (part n) 0 (k * w + j)
+      (omega (arith, parts-long n, suc-mul k w, mul-le-mul-right w g)) ∙ ih g
+
+  -- byte j of part k
+  pub parts-at : (n k j : ℕ) → k < n → j < w → getD (bytesUpTo part n) (k * w + j) 0 ≡ getD (part k) j 0
+  unfolding bytesUpTo
+  parts-at zero k j l h = absurd (let x : ⊥ = omega arith in x)
+  parts-at (suc n) k j l h = at-by n k j l h (λ g. parts-at n k j g h) (eqb k n) refl
+
+  -- byte j of part k, behind a front of that length
+  behind : (x : List ℕ) (off n i k j : ℕ) → length x ≡ off → k < n → j < w → i ≡ off + k * w + j
+      → getD (x ++ bytesUpTo part n) i 0 ≡ getD (part k) j 0
+  behind x off n i k j e l h q =
+      let z : i ≡ length x + (k * w + j) = omega arith in
+      ap (λ i. getD (x ++ bytesUpTo part n) i 0) z
+      ∙ getD-append-add x (bytesUpTo part n) (k * w + j) 0
+      ∙ parts-at n k j l h
+
+  behind-long : (x : List ℕ) (off n : ℕ) → length x ≡ off → length (x ++ bytesUpTo part n) ≡ off + n * w
+  behind-long x off n e = length-append x (bytesUpTo part n) ∙ ap₂ _+_ e (parts-long n)
+
+-- a byte of the front
+under : (x y : List ℕ) (off i : ℕ) → length x ≡ off → i < off → getD (x ++ y) i 0 ≡ getD x i 0
+under x y off i e h = List·getD-append x y 0 i (omega arith)
+
+-- the bytes of a part stand in s from a place on
+record Part (s part : List ℕ) (w off : ℕ) : Type 0 where
+  byte : (j i : ℕ) → j < w → i ≡ off + j → getD s i 0 ≡ getD part j 0
+
+-- ---- the parts of a state
+
+module _ (a : Auction) where
+  abbrev toProducts : List ℕ
+  toProducts = headBytes a ++ bytesUpTo (productBytes a) 8
+
+  abbrev toBidders : List ℕ
+  toBidders = toProducts ++ bytesUpTo (bidderBytes a) 32
+
+  abbrev toRows : List ℕ
+  toRows = toBidders ++ bytesUpTo (rowBytes a) 8
+
+  abbrev toRecords : List ℕ
+  toRecords = toRows ++ bytesUpTo (λ k. recordBytes (recordAt (a .records) k)) 256
+
+  products-long : length toProducts ≡ 101
+  products-long = behind-long (productBytes a) 11 (λ k. refl) (headBytes a) 13 8 refl
+
+  bidders-long : length toBidders ≡ 229
+  bidders-long = behind-long (bidderBytes a) 4 (λ k. refl) toProducts 101 32 products-long
+
+  rows-long : length toRows ≡ 261
+  rows-long = behind-long (rowBytes a) 4 (λ k. refl) toBidders 229 8 bidders-long
+
+  records-long : length toRecords ≡ 1797
+  records-long = behind-long (λ k. recordBytes (recordAt (a .records) k)) 6 (λ k. refl) toRows 261 256 rows-long
+
+  -- the state's length
+  pub stored-long : length (stored a) ≡ 3333
+  unfolding stored
+  stored-long = behind-long (λ k. lineBytes (getD (a .bids) k noLine)) 6 (λ k. refl) toRecords 1797 256 records-long
+
+  in-records : (i : ℕ) → i < 1797 → getD (stored a) i 0 ≡ getD toRecords i 0
+  unfolding stored
+  in-records i h = under toRecords (bytesUpTo (λ k. lineBytes (getD (a .bids) k noLine)) 256) 1797 i records-long h
+
+  in-rows : (i : ℕ) → i < 261 → getD (stored a) i 0 ≡ getD toRows i 0
+  in-rows i h = in-records i (omega arith) ∙ under toRows _ 261 i rows-long h
+
+  in-bidders : (i : ℕ) → i < 229 → getD (stored a) i 0 ≡ getD toBidders i 0
+  in-bidders i h = in-rows i (omega arith) ∙ under toBidders _ 229 i bidders-long h
+
+  in-products : (i : ℕ) → i < 101 → getD (stored a) i 0 ≡ getD toProducts i 0
+  in-products i h = in-bidders i (omega arith) ∙ under toProducts _ 101 i products-long h
+
+  head-part : Part (stored a) (headBytes a) 13 0
+  head-part = record {
+    byte = λ j i l e.
+        let q : i ≡ j = omega arith in
+        rw q (in-products j (omega arith) ∙ under (headBytes a) (bytesUpTo (productBytes a) 8) 13 j refl l);
+  }
+
+  product-part : (p : ℕ) → p < 8 → Part (stored a) (productBytes a p) 11 (13 + p * 11)
+  product-part p h = record {
+    byte = λ j i l e. in-products i (omega arith) ∙ behind (productBytes a) 11 (λ k. refl) (headBytes a) 13 8 i p j refl h l e;
+  }
+
+  bidder-part : (b : ℕ) → b < 32 → Part (stored a) (bidderBytes a b) 4 (101 + b * 4)
+  bidder-part b h = record {
+    byte = λ j i l e. in-bidders i (omega arith) ∙ behind (bidderBytes a) 4 (λ k. refl) toProducts 101 32 i b j products-long h l e;
+  }
+
+  row-part : (r : ℕ) → r < 8 → Part (stored a) (rowBytes a r) 4 (229 + r * 4)
+  row-part r h = record {
+    byte = λ j i l e. in-rows i (omega arith) ∙ behind (rowBytes a) 4 (λ k. refl) toBidders 229 8 i r j bidders-long h l e;
+  }
+
+  record-part : (k : ℕ) → k < 256 → Part (stored a) (recordBytes (recordAt (a .records) k)) 6 (261 + k * 6)
+  record-part k h = record {
+    byte = λ j i l e.
+        in-records i (omega arith)
+        ∙ behind (λ k. recordBytes (recordAt (a .records) k)) 6 (λ k. refl) toRows 261 256 i k j rows-long h l e;
+  }
+
+  line-part : (k : ℕ) → k < 256 → Part (stored a) (lineBytes (getD (a .bids) k noLine)) 6 (1797 + k * 6)
+  unfolding stored
+  line-part k h = record {
+    byte = λ j i l e. behind (λ k. lineBytes (getD (a .bids) k noLine)) 6 (λ k. refl) toRecords 1797 256 i k j records-long h l e;
+  }
+
+-- ---- and back
+
+three : (x : ℕ) → x < 16777216 → x / 65536 % 256 * 65536 + x / 256 % 256 * 256 + x % 256 ≡ x
+three x h = omega arith
+
+joined : (k l m n x : ℕ) → k * 65536 + l * 256 + m ≡ x / 256 → n ≡ x % 256 → k * 16777216 + l * 65536 + m * 256 + n ≡ x
+joined k l m n x e f = omega arith
+
+-- numbers read from the bytes of one part, which stands from a place on
+module _ {s part : List ℕ} {w off : ℕ} (P : Part s part w off) where
+  one-at : (j i x : ℕ) → j < w → i ≡ off + j → x < 256 → getD part j 0 ≡ x % 256 → read1 s i ≡ x
+  one-at j i x l e h p = omega (arith, P .byte j i l e)
+
+  two-at : (j i x : ℕ) → j + 1 < w → i ≡ off + j → x < 65536 → getD part j 0 ≡ x / 256 % 256 → getD part (j + 1) 0 ≡ x % 256
+      → read2 s i ≡ x
+  two-at j i x l e h p q = omega (arith, P .byte j i (omega arith) e, P .byte (j + 1) (i + 1) l (omega arith))
+
+  three-at : (j i x : ℕ) → j + 2 < w → i ≡ off + j → x < 16777216 → getD part j 0 ≡ x / 65536 % 256 → getD part (j + 1) 0 ≡ x / 256 % 256
+      → getD part (j + 2) 0 ≡ x % 256 → read3 s i ≡ x
+  three-at j i x l e h p q r =
+      rw (P .byte j i (omega arith) e, P .byte (j + 1) (i + 1) (omega arith) (omega arith), P .byte (j + 2) (i + 2) l (omega arith), p, q, r) (three x h)
+
+  four-at : (j i x : ℕ) → j + 3 < w → i ≡ off + j → x < 4294967296 → getD part j 0 ≡ x / 16777216 % 256
+      → getD part (j + 1) 0 ≡ x / 65536 % 256 → getD part (j + 2) 0 ≡ x / 256 % 256 → getD part (j + 3) 0 ≡ x % 256 → read4 s i ≡ x
+  four-at j i x l e h p q r t =
+      rw (P .byte j i (omega arith) e, P .byte (j + 1) (i + 1) (omega arith) (omega arith), P .byte (j + 2) (i + 2) (omega arith) (omega arith), P .byte (j + 3) (i + 3) l (omega arith), p, q, r, t)
+      (joined (x / 16777216 % 256) (x / 65536 % 256) (x / 256 % 256) (x % 256) x
+      (rw (← shr-shr x 8 16, ← shr-shr x 8 8) (three (x / 256) (omega arith))) refl)
+
+module _ (a : Auction) (L : Long a) (F : Fits a) where
+  item-back : (p : ℕ) → p < 8
+      → item (read1 (stored a) (p * 11 + 13)) (read1 (stored a) (p * 11 + 14)) (read3 (stored a) (p * 11 + 15)) ≡ getD (a .terms .item) p noItem
+  item-back p h =
+      let P = product-part a p h in
+      rw (
+        one-at P 0 (p * 11 + 13) (targetOf (a .terms) p) (omega arith) (omega arith) (F .target p h) refl,
+        one-at P 1 (p * 11 + 14) (capOf (a .terms) p) (omega arith) (omega arith) (F .cap p h) refl,
+        three-at P 2 (p * 11 + 15) (startOf (a .terms) p) (omega arith) (omega arith) (F .start p h) refl refl refl,
+      )
+
+  price-back : (p : ℕ) → p < 8 → read3 (stored a) (p * 11 + 18) ≡ priceAt a p
+  price-back p h = three-at (product-part a p h) 5 (p * 11 + 18) (priceAt a p) (omega arith) (omega arith) (F .price p h) refl refl refl
+
+  before-back : (p : ℕ) → p < 8 → read3 (stored a) (p * 11 + 21) ≡ beforeAt a p
+  before-back p h = three-at (product-part a p h) 8 (p * 11 + 21) (beforeAt a p) (omega arith) (omega arith) (F .before p h) refl refl refl
+
+  initial-back : (b : ℕ) → b < 32 → tranches (read2 (stored a) (b * 4 + 101)) ≡ getD (a .terms .eligibility) b (tranches 0)
+  initial-back b h =
+      rw (two-at (bidder-part a b h) 0 (b * 4 + 101) (initialOf (a .terms) b) (omega arith) (omega arith) (F .initial b h) refl refl)
+
+  free-back : (b : ℕ) → b < 32 → tranches (read2 (stored a) (b * 4 + 103)) ≡ getD (a .free) b (tranches 0)
+  free-back b h = rw (two-at (bidder-part a b h) 2 (b * 4 + 103) (freeOf a b) (omega arith) (omega arith) (F .free b h) refl refl)
+
+  row-back : (i : ℕ) → i < 8 → row (read2 (stored a) (i * 4 + 229)) (read2 (stored a) (i * 4 + 231)) ≡ getD (a .terms .row) i noRow
+  row-back i h =
+      let P = row-part a i h in
+      rw (
+        two-at P 0 (i * 4 + 229) (percentOf (a .terms) i) (omega arith) (omega arith) (F .percent i h) refl refl,
+        two-at P 2 (i * 4 + 231) (decrementOf (a .terms) i) (omega arith) (omega arith) (F .decrement i h) refl refl,
+      )
+
+  record-back : (k : ℕ) → k < 256 → recordFrom (stored a) (k * 6 + 261) ≡ recordAt (a .records) k
+  record-back k h =
+      let P = record-part a k h in
+      let r = recordAt (a .records) k in
+      rw (
+        one-at P 0 (k * 6 + 261) (goingIn r) (omega arith) (omega arith) (F .going k h) refl,
+        one-at P 1 (k * 6 + 261 + 1) (deniedIn r) (omega arith) (omega arith) (F .denied k h) refl,
+        one-at P 2 (k * 6 + 261 + 2) (retainedIn r) (omega arith) (omega arith) (F .retained k h) refl,
+        three-at P 3 (k * 6 + 261 + 3) (exitIn r) (omega arith) (omega arith) (F .exit k h) refl refl refl,
+      )
+
+  line-back : (k : ℕ) → k < 256 → lineFrom (stored a) (k * 6 + 1797) ≡ getD (a .bids) k noLine
+  line-back k h =
+      let P = line-part a k h in
+      let l = getD (a .bids) k noLine in
+      rw (
+        one-at P 0 (k * 6 + 1797) (bidIn l) (omega arith) (omega arith) (F .bid k h) refl,
+        one-at P 1 (k * 6 + 1797 + 1) (withdrawnIn l) (omega arith) (omega arith) (F .withdrawn k h) refl,
+        three-at P 2 (k * 6 + 1797 + 2) (exitOn l) (omega arith) (omega arith) (F .leaving k h) refl refl refl,
+        one-at P 5 (k * 6 + 1797 + 5) (l .priority) (omega arith) (omega arith) (F .priority k h) refl,
+      )
+
+  terms-back : termsFrom (stored a) ≡ a .terms
+  unfolding termsFrom
+  terms-back =
+      let t = a .terms in
+      let u : read1 (stored a) 1 ≡ t .unit = one-at (head-part a) 1 1 (t .unit) (omega arith) (omega arith) (F .unit) refl in
+      let m : read1 (stored a) 2 ≡ t .products = one-at (head-part a) 2 2 (t .products) (omega arith) (omega arith) (F .products) refl in
+      let n : read1 (stored a) 3 ≡ t .bidders = one-at (head-part a) 3 3 (t .bidders) (omega arith) (omega arith) (F .bidders) refl in
+      let r : read1 (stored a) 4 ≡ t .rows = one-at (head-part a) 4 4 (t .rows) (omega arith) (omega arith) (F .rows) refl in
+      let s : read2 (stored a) 7 ≡ t .statewide .0 = two-at (head-part a) 7 7 (t .statewide .0) (omega arith) (omega arith) (F .statewide) refl refl in
+      let i = list-is _ noItem 8 (t .item) (L .item) (λ p h. sym (item-back p h)) in
+      let e = list-is _ (tranches 0) 32 (t .eligibility) (L .eligibility) (λ b h. sym (initial-back b h)) in
+      let w = list-is _ noRow 8 (t .row) (L .row) (λ j h. sym (row-back j h)) in
+      rw (u, m, n, r, s, ← i, ← e, ← w)
+
+  -- what is stored is loaded
+  pub loads : loaded (stored a) ≡ a
+  unfolding loaded
+  loads =
+      let f : read1 (stored a) 0 ≡ a .phase = one-at (head-part a) 0 0 (a .phase) (omega arith) (omega arith) (F .phase) refl in
+      let r : read2 (stored a) 5 ≡ a .round = two-at (head-part a) 5 5 (a .round) (omega arith) (omega arith) (F .round) refl refl in
+      let m : read4 (stored a) 9 ≡ a .filed = four-at (head-part a) 9 9 (a .filed) (omega arith) (omega arith) (F .filed) refl refl refl refl in
+      let x = list-is _ 0 8 (a .price) (L .price) (λ p h. sym (price-back p h)) in
+      let y = list-is _ 0 8 (a .before) (L .before) (λ p h. sym (before-back p h)) in
+      let e = list-is _ (tranches 0) 32 (a .free) (L .free) (λ b h. sym (free-back b h)) in
+      let h = list-is _ nothing 256 (a .records) (L .records) (λ k h. sym (record-back k h)) in
+      let b = list-is _ noLine 256 (a .bids) (L .bids) (λ k h. sym (line-back k h)) in
+      rw (f, r, m, terms-back, ← x, ← y, ← e, ← h, ← b)
+
+-- a state that is not issued is not all zero
+pub stored-some : (a : Auction) → 1 ≤ a .phase → a .phase < 256 → allZero (stored a) ≡ false
+stored-some a s h =
+    let e = one-at (head-part a) 0 0 (a .phase) (omega arith) (omega arith) h refl in
+    not-all (λ i. eqb (getD (stored a) i 0) 0) (length (stored a)) 0 (omega (arith, stored-long a)) (ne-eqb (getD (stored a) 0 0) 0 (λ z. omega arith))
+
+-- ---- any bytes
+
+-- the lists that are loaded are as long as the arrays
+pub loaded-long : (s : List ℕ) → Long (loaded s)
+unfolding loaded termsFrom
+loaded-long s = record {
+  item = list-long _ 8;
+  eligibility = list-long _ 32;
+  row = list-long _ 8;
+  price = list-long _ 8;
+  before = list-long _ 8;
+  free = list-long _ 32;
+  records = list-long _ 256;
+  bids = list-long _ 256;
+}
+
+-- each element is a byte
+pub record Bytes (s : List ℕ) : Type 0 where
+  pub small : (i : ℕ) → getD s i 0 < 256
+
+-- a bitmap that is loaded has 32 bits
+pub loaded-bits : (s : List ℕ) → Bytes s → loaded s .filed < 4294967296
+unfolding loaded
+loaded-bits s B = omega (arith, B .small 9, B .small 10, B .small 11, B .small 12)
+
+no-bytes : Bytes []
+no-bytes = record { small = λ i. omega arith }
+
+one-byte : (x : ℕ) (s : List ℕ) → Bytes s → Bytes (x % 256 ∷ s)
+one-byte x s B = record { small = λ i. elim i [ zero ↦ omega arith | suc j ↦ B .small j ] }
+
+more-bytes : (s t : List ℕ) → Bytes s → Bytes t → Bytes (s ++ t)
+more-bytes s t B C = record { small = λ i. by i (ltb i (length s)) refl }
+  where
+    by : (i : ℕ) (k : Bool) → ltb i (length s) ≡ k → getD (s ++ t) i 0 < 256
+    by i true e = rw (List·getD-append s t 0 i (ltb-true _ _ e)) (B .small i)
+    by i false e =
+        let l = ltb-false i (length s) e in
+        let z : i ≡ length s + (i - length s) = omega arith in
+        rw (z, getD-append-add s t (i - length s) 0) (C .small (i - length s))
+
+parts-bytes : (part : ℕ → List ℕ) → ((k : ℕ) → Bytes (part k)) → (n : ℕ) → Bytes (bytesUpTo part n)
+unfolding bytesUpTo
+parts-bytes part h zero = no-bytes
+parts-bytes part h (suc n) = more-bytes (bytesUpTo part n) (part n) (parts-bytes part h n) (h n)
+
+-- what is stored is bytes
+pub stored-bytes : (a : Auction) → Bytes (stored a)
+unfolding stored
+stored-bytes a = search (one-byte, more-bytes, parts-bytes, no-bytes) depth 30
