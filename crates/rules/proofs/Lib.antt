@@ -1,5 +1,6 @@
 pub mod Sums
 pub mod Lists
+pub mod Fill
 pub mod Tests
 pub mod Stands
 pub mod Standing
