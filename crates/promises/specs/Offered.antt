@@ -23,7 +23,7 @@ ByDeeming r b p c x =
     (ticked (r .auction) p ≡ false)
     × (0 < riseOf (placeAt (afterStep2 (r .auction) (r .draw) .places) (b * 8 + p)))
     × (c ≡ goingIn (placeAt (afterStep2 (r .auction) (r .draw) .places) (b * 8 + p) .holds)
-        + deniedIn (placeAt (afterStep2 (r .auction) (r .draw) .places) (b * 8 + p) .holds))
+    + deniedIn (placeAt (afterStep2 (r .auction) (r .draw) .places) (b * 8 + p) .holds))
     × (x ≡ priceAt (r .auction) p)
 
 abbrev pub AtGoingPrice : Round → ℕ → ℕ → ℕ → ℕ → Type 0

@@ -17,6 +17,7 @@ use Rattle.rules.specs.Accept.{placeAt, acceptedAll, keptOf, riseOf, dee
 use Rattle.rules.specs.Outbid.{deemIf, deemedUpTo}
 use Rattle.rules.specs.Round.{drawFits, afterStep2, afterStep4, calculated}
 use Rattle.rules.specs.Standing.{keptOn, isOpen}
+use Rattle.rules.specs.Counted.{keptWhereTicked, deemedAt, outbidOf}
 use Rattle.rules.proofs.Sums.{sum-ext, sum-six, sum-zero}
 use Rattle.rules.proofs.Stands.{Stands, Long}
 use Rattle.rules.proofs.Places.{deniedOf}
@@ -25,15 +26,6 @@ use Rattle.rules.proofs.Made.{AllAccepted, made-none}
 use Rattle.rules.proofs.Booked.{Booked, kept-end, out-end, unticked, kept-ticked, booked}
 use Rattle.rules.proofs.Prices.{PriceAfter}
 use Rattle.rules.proofs.Settled.{Closes, settled-stands, settled-long, settled-prices, settled-closes, settled-terms, settled-held, settled-kept, settled-eligibility}
-
--- the denied tranches of bidder b on product p that step 3 deems bid, in the places that step 2 leaves
-abbrev pub deemedAt : List Place → ℕ → ℕ → ℕ
-deemedAt ps b p = cond (ltb 0 (riseOf (placeAt ps (b * 8 + p)))) (deniedOf (placeAt ps (b * 8 + p))) 0
-
--- all that step 3 deems bid in a round, on the products that did not tick
-abbrev pub deemedIn : Auction → List ℕ → ℕ
-deemedIn a draw =
-    sumUpTo (λ p. cond (ticked a p) 0 (sumUpTo (λ b. deemedAt (afterStep2 a draw .places) b p) (a .terms .bidders))) (a .terms .products)
 
 module _ (a : Auction) (draw : List ℕ) (S : Stands a) (L : Long a) (op : isOpen a ≡ true)
     (D : drawFits (a .terms .bidders) draw ≡ true) (A : AllAccepted a) where
@@ -112,8 +104,7 @@ module _ (a : Auction) (draw : List ℕ) (S : Stands a) (L : Long a) (op : isOpe
   kept-by p hp false e = (refl, refl)
 
   -- the count of step 2 is that of the kept tranches now on products that had ticked
-  pub round-kept : calculated a draw .kept
-      ≡ sumUpTo (λ p. cond (ticked a p) (keptOn (calculated a draw .auction) p) 0) (a .terms .products)
+  pub round-kept : calculated a draw .kept ≡ keptWhereTicked a (calculated a draw .auction)
   unfolding calculated
   round-kept =
       let u = sum-ext (λ p. cond (ticked a p) (column keptOf (acceptedAll a) p n) 0) (λ p. 0) m (λ p hp. kept-by p hp (ticked a p) refl .0) in
@@ -144,10 +135,8 @@ module _ (a : Auction) (draw : List ℕ) (S : Stands a) (L : Long a) (op : isOpe
       (λ b hb. omega (arith, deemed-here b p hb hp e)) in
       omega (arith, sum-zero n)
 
-  -- the count of step 4, those deemed bid in step 3 and those still kept on the other products are those kept there before
-  pub round-outbid : calculated a draw .outbid + deemedIn a draw
-      + sumUpTo (λ p. cond (ticked a p) 0 (keptOn (calculated a draw .auction) p)) (a .terms .products)
-      ≡ sumUpTo (λ p. cond (ticked a p) 0 (keptOn a p)) (a .terms .products)
+  -- the count of step 4 is those kept before on the other products, less those deemed bid in step 3, less those still kept there
+  pub round-outbid : calculated a draw .outbid ≡ outbidOf a draw (calculated a draw .auction)
   unfolding calculated
   round-outbid =
       let x = sum-six (λ p. cond (ticked a p) 0 (column keptOf l3 p n)) (λ p. cond (ticked a p) 0 (sumUpTo (λ b. deemedAt l2 b p) n)) (λ p. 0)

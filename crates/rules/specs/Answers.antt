@@ -3,6 +3,8 @@ use mathlib.Core.Bool.{cond}
 use mathlib.Core.List.{List, [], _∷_}
 use Prim.Native.Nat.{ℕ, zero, suc}
 use lib.Dec.{eqb}
+use Rattle.rules.specs.declared.Field.{Field}
+use Rattle.rules.specs.declared.Field.the-variants as field
 use Rattle.rules.specs.declared.Card.{Card}
 use Rattle.rules.specs.declared.Card.the-variants as card
 use Rattle.rules.specs.declared.Answer.{Answer}
@@ -68,6 +70,11 @@ unlessRefused n new old = outcome (answerFrom n) (cond (eqb n 0) new old)
 abbrev pub answerOf : Answer → Said
 answerOf answer.Done = said 0 []
 answerOf (answer.Refused n) = said n []
+
+-- a field that ends past the card is a card of the wrong length, number 4
+abbrev pub fieldSaid : Field → Said
+fieldSaid (field.Value v) = said 0 (v ∷ [])
+fieldSaid field.Past = said 4 []
 
 abbrev pub cardSaid : Card → Said
 cardSaid (card.Bid b r) = said 0 (b ∷ r ∷ [])

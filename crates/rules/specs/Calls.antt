@@ -1,4 +1,5 @@
--- "Numbers answered": for each call one total definition of its answer and of every byte lent to it. Assumes nothing.
+-- "Numbers answered": for each call one total definition of its answer and, where it is lent bytes to write, of all of them at the
+-- end. What a call is lent only to read (a card, a draw, the state of count, report and result) stays as it is. Assumes nothing.
 use mathlib.Core.Bool.{_&&_, cond}
 use mathlib.Core.List.{List}
 use Prim.Native.Nat.{ℕ, zero, _*_, _-_}

@@ -19,21 +19,6 @@ use Rattle.rules.specs.Bid.{bidIn, withdrawnIn, exitOn, priceAt, beforeA
 abbrev pub stateLength : ℕ
 stateLength = 3333
 
-abbrev pub productsFrom : ℕ
-productsFrom = 13
-
-abbrev pub biddersFrom : ℕ
-biddersFrom = 101
-
-abbrev pub rowsFrom : ℕ
-rowsFrom = 229
-
-abbrev pub recordsFrom : ℕ
-recordsFrom = 261
-
-abbrev pub bidsFrom : ℕ
-bidsFrom = 1797
-
 -- ---- to bytes
 
 abbrev pub byte1 : ℕ → List ℕ

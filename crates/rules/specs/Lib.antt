@@ -14,5 +14,6 @@ pub mod Round
 pub mod Report
 pub mod Layout
 pub mod Standing
+pub mod Counted
 pub mod Calls
 pub mod Cases

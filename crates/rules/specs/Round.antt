@@ -21,10 +21,12 @@ use Rattle.rules.specs.Keep.{keptAll}
 use Rattle.rules.specs.Outbid.{deemedUpTo, outbidAll}
 use Rattle.rules.specs.Price.{nextPrice, nextBefore}
 
--- "The draw order is a list of all bidders, each once, as one byte each": as many as the n bidders, each below n, and every bidder found
+-- the bidder at place i of the draw, 0 the earliest
 abbrev pub drawn : List ℕ → ℕ → ℕ
 drawn order i = getD order i 0
 
+-- "The draw order is a list of all bidders, each once, as one byte each": as many as the n bidders, each below n, and every
+-- bidder found, so that none can stand twice
 abbrev pub drawFits : ℕ → List ℕ → Bool
 drawFits n order =
     eqb (length order) n

@@ -76,11 +76,12 @@ rowWithin t i =
     (rising t i && (leb (percentOf t i) 60000 && between 50 (decrementOf t i) 500))
     (eqb (percentOf t i) 0 && eqb (decrementOf t i) 0)
 
--- "1 to 8 products"; "Bidders 1 to 32"; "1 to 8 pairs"; one of the two units; "Statewide cap 1 to the sum of targets"
+-- "1 to 8 products"; "Bidders 1 to 32"; "1 to 8 pairs"; one of the two units
 abbrev pub countsWithin : Terms → Bool
 countsWithin t =
     between 1 (t .products) 8 && (between 1 (t .bidders) 32 && (between 1 (t .rows) 8 && leb (t .unit) 1))
 
+-- "Statewide cap 1 to the sum of targets"
 abbrev pub statewideWithin : Terms → Bool
 statewideWithin t = between 1 (t .statewide .0) (sumUpTo (targetOf t) (t .products))
 
@@ -110,9 +111,10 @@ termsOf s = record {
   row = s .row;
 }
 
--- every price is of the auction's unit
+-- every starting price in use is of the auction's unit
 abbrev pub oneUnit : Settings → Bool
-oneUnit s = allUpTo (λ p. eqb (unitOf (productAt s p .start)) (unitNumber (s .unit))) 8
+oneUnit s =
+    allUpTo (λ p. cond (ltb p (s .products)) (eqb (unitOf (productAt s p .start)) (unitNumber (s .unit))) true) 8
 
 -- "a setting outside the above" is number 15
 abbrev pub settingsFit : Settings → Bool
