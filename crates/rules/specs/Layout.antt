@@ -19,6 +19,21 @@ use Rattle.rules.specs.Bid.{bidIn, withdrawnIn, exitOn, priceAt, beforeA
 abbrev pub stateLength : ℕ
 stateLength = 3333
 
+abbrev pub productsFrom : ℕ
+productsFrom = 13
+
+abbrev pub biddersFrom : ℕ
+biddersFrom = 101
+
+abbrev pub rowsFrom : ℕ
+rowsFrom = 229
+
+abbrev pub recordsFrom : ℕ
+recordsFrom = 261
+
+abbrev pub bidsFrom : ℕ
+bidsFrom = 1797
+
 -- ---- to bytes
 
 abbrev pub byte1 : ℕ → List ℕ
@@ -99,9 +114,9 @@ termsFrom s = record {
   bidders = read1 s 3;
   rows = read1 s 4;
   statewide = tranches (read2 s 7);
-  item = listOf (λ p. item (read1 s (p * 11 + 13)) (read1 s (p * 11 + 14)) (read3 s (p * 11 + 15))) 8;
-  eligibility = listOf (λ b. tranches (read2 s (b * 4 + 101))) 32;
-  row = listOf (λ i. row (read2 s (i * 4 + 229)) (read2 s (i * 4 + 231))) 8;
+  item = listOf (λ p. item (read1 s (p * 11 + productsFrom)) (read1 s (p * 11 + 14)) (read3 s (p * 11 + 15))) 8;
+  eligibility = listOf (λ b. tranches (read2 s (b * 4 + biddersFrom))) 32;
+  row = listOf (λ i. row (read2 s (i * 4 + rowsFrom)) (read2 s (i * 4 + 231))) 8;
 }
 
 unfoldable pub loaded : List ℕ → Auction
@@ -113,8 +128,8 @@ loaded s = record {
   price = listOf (λ p. read3 s (p * 11 + 18)) 8;
   before = listOf (λ p. read3 s (p * 11 + 21)) 8;
   free = listOf (λ b. tranches (read2 s (b * 4 + 103))) 32;
-  records = listOf (λ k. recordFrom s (k * 6 + 261)) 256;
-  bids = listOf (λ k. lineFrom s (k * 6 + 1797)) 256;
+  records = listOf (λ k. recordFrom s (k * 6 + recordsFrom)) 256;
+  bids = listOf (λ k. lineFrom s (k * 6 + bidsFrom)) 256;
 }
 
 -- "all zero as issued"
