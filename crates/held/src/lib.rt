@@ -6,7 +6,7 @@ ghost use mathlib.Core.Bool.{_&&_};
 ghost use lib.Dec.{eqb};
 ghost use Rattle.rules.specs.Count.{sumUpTo};
 ghost use Rattle.rules.specs.Settings.{targetOf};
-ghost use Rattle.rules.specs.Held.{heldIn, keptIn, held, standingOf, ticked, aboveZero, freeOf, excess};
+ghost use Rattle.rules.specs.Held.{heldIn, held, standingOf, ticked, aboveZero, freeOf, excess};
 ghost use Rattle.rules.specs.Bid.{recordOf, priceAt};
 ghost use Rattle.rules.specs.Standing.{keptOn};
 ghost use Rattle.rules.specs.Round.{atBottom, stops};

@@ -1,4 +1,4 @@
-use Rattle.held.proofs.Loops.{found, found-none, not-yet}
+use Rattle.held.proofs.Search.{found, found-none, not-yet}
 use Rattle.rules.specs.Bid.{priceAt}
 use Rattle.rules.specs.Held.{ticked}
 use Rattle.rules.specs.Count.{firstUpTo}

@@ -1,0 +1,23 @@
+use native.Mathlib.Omega.{arith}
+use borrow.Author.Tests.{lt-ltb, le-ltb, eq-eqb, ne-eqb, le-leb, lt-leb, not-true, not-false}
+use borrow.Author.Needs.{needs}
+use Rattle.bids.proofs.one_if_increased.Statement.{statement}
+use Rattle.bids.proofs.one_if_increased.Tie as tie
+use Rattle.bids.proofs.one_if_increased.Reads as reads
+use Rattle.bids.proofs.one_if_increased.Lts as lts
+use Rattle.bids.proofs.increase.Reads as increase-reads
+
+-- src/lib.rt:286:8
+increase-requires : tie.Need-increase-requires
+increase-requires c κs = search needs
+
+-- src/lib.rt:287:9
+returns : tie.Need-returns
+returns c = let i = c .before .increase in (rw (← i .ensures .0, le-ltb 0 (i .result) (omega arith)), search needs)
+
+-- src/lib.rt:283:1
+returns-2 : tie.Need-returns-2
+returns-2 c = let i = c .before .increase in (rw (← i .ensures .0, lt-ltb 0 (i .result) (omega (arith, c .if1 .left))), search needs)
+
+pub one-if-increased-spec : {M : Type 1} → statement M
+one-if-increased-spec = tie.close (tie.spec increase-requires returns returns-2)

@@ -1,0 +1,197 @@
+-- The laws of a card's lines: put, read, and tested whether they fit. Assumes nothing.
+use mathlib.Core.Path.{_≡_, refl, ap, _∙_}
+use mathlib.Core.Logic.{inl}
+use mathlib.Core.Bool.{Bool, true, false, _&&_, false≢true, and-eq-true-iff}
+use mathlib.Core.List.{List}
+use Prim.Native.Nat.{ℕ, zero, suc, _+_, _*_, _≤_, _<_}
+use native.Mathlib.Decide.{decLt}
+use native.Mathlib.Omega.{arith}
+use lib.ListN.{length, getD, length-set, getD-replicate}
+use lib.Seq.{getD-set-same, getD-set-other}
+use lib.Dec.{ltb, eqb}
+use borrow.Author.Tests.{lt-ltb, le-ltb, ltb-true, eqb-true}
+use Rattle.rules.specs.declared.Line.{Line}
+use Rattle.rules.specs.Bits.{bitAt, fieldAt}
+use Rattle.rules.specs.Count.{allUpTo}
+use Rattle.rules.specs.Card.{line, noLine, lineBit, lineAt, readLines, putLine, putLines, lineFits, lineZero}
+use Rattle.card.specs.Parts.{lineWritable}
+use Rattle.card.proofs.BitLaws.{field-small, Agree, field-agree, agree-field, agree-join, length-put, Outside, outside-part, put-out, field-before, field-put, Bytes, bytes-put}
+
+-- ---- a line read
+
+pub line-agree : (s t : List ℕ) (at : ℕ) → Agree s t at 36 → lineAt s at ≡ lineAt t at
+line-agree s t at h =
+    λ i.
+    line (field-agree s t at 8 (λ k a l. h k (omega arith) (omega arith)) i)
+    (field-agree s t (at + 8) 8 (λ k a l. h k (omega arith) (omega arith)) i)
+    (field-agree s t (at + 16) 17 (λ k a l. h k (omega arith) (omega arith)) i)
+    (field-agree s t (at + 33) 3 (λ k a l. h k (omega arith) (omega arith)) i)
+
+pub agree-line : (s t : List ℕ) (at : ℕ) → lineAt s at ≡ lineAt t at → Agree s t at 36
+agree-line s t at e =
+    agree-join s t at 33 3
+    (agree-join s t at 16 17
+    (agree-join s t at 8 8 (agree-field s t at 8 (ap (λ (x : Line). x .tranches .0) e)) (agree-field s t (at + 8) 8 (ap (λ (x : Line). x .withdrawn .count .0) e)))
+    (agree-field s t (at + 16) 17 (ap (λ (x : Line). x .withdrawn .exit) e)))
+    (agree-field s t (at + 33) 3 (ap (λ (x : Line). x .priority) e))
+
+-- ---- whether a line fits
+
+-- four tests passed together have each passed
+four : (a b c d : Bool) → (a && (b && (c && d))) ≡ true → ((a ≡ true) × (b ≡ true)) × ((c ≡ true) × (d ≡ true))
+four true true true d e = ((refl, refl), (refl, e))
+four true true false d e = absurd (false≢true e)
+four true false c d e = absurd (false≢true e)
+four false b c d e = absurd (false≢true e)
+
+pub record Fits (l : Line) : Type 0 where
+  pub tranches : l .tranches .0 < 256
+  pub count : l .withdrawn .count .0 < 256
+  pub exit : l .withdrawn .exit < 131072
+  pub priority : l .priority < 8
+
+pub fits : (l : Line) → lineFits l ≡ true → Fits l
+fits l e =
+    let q = four (ltb (l .tranches .0) 256) (ltb (l .withdrawn .count .0) 256) (ltb (l .withdrawn .exit) 131072) (ltb (l .priority) 8) e in
+    record { tranches = ltb-true _ _ (q .0 .0); count = ltb-true _ _ (q .0 .1); exit = ltb-true _ _ (q .1 .0); priority = ltb-true _ _ (q .1 .1) }
+
+pub zero-line : (l : Line) → lineZero l ≡ true → l ≡ noLine
+zero-line l e =
+    let q = four (eqb (l .tranches .0) 0) (eqb (l .withdrawn .count .0) 0) (eqb (l .withdrawn .exit) 0) (eqb (l .priority) 0) e in
+    λ i.
+    line (eqb-true (l .tranches .0) 0 (q .0 .0) i) (eqb-true (l .withdrawn .count .0) 0 (q .0 .1) i) (eqb-true (l .withdrawn .exit) 0 (q .1 .0) i)
+    (eqb-true (l .priority) 0 (q .1 .1) i)
+
+-- whatever bits a line is read from, it fits
+pub read-fits : (s : List ℕ) (at : ℕ) → lineFits (lineAt s at) ≡ true
+read-fits s at =
+    rw (
+      lt-ltb (fieldAt s at 8) 256 (field-small s at 8),
+      lt-ltb (fieldAt s (at + 8) 8) 256 (field-small s (at + 8) 8),
+      lt-ltb (fieldAt s (at + 16) 17) 131072 (field-small s (at + 16) 17),
+      lt-ltb (fieldAt s (at + 33) 3) 8 (field-small s (at + 33) 3),
+    )
+
+-- each of the first n tests has passed where all have together
+pub all-at : (test : ℕ → Bool) (n i : ℕ) → allUpTo test n ≡ true → i < n → test i ≡ true
+unfolding allUpTo
+all-at test zero i e l = absurd (omega arith)
+all-at test (suc n) i e l =
+    let q = and-eq-true-iff (allUpTo test n) (test n) .0 e in
+    elim (decLt i n) [ yes m ↦ all-at test n i (q .0) m | no m ↦ let h : i ≡ n = omega (arith, m) in rw h (q .1) ]
+
+pub all-of : (test : ℕ → Bool) (n : ℕ) → ((i : ℕ) → i < n → test i ≡ true) → allUpTo test n ≡ true
+unfolding allUpTo
+all-of test zero h = refl
+all-of test (suc n) h = rw (all-of test n (λ i l. h i (omega arith)), h n (omega arith))
+
+-- ---- a line put
+
+module _ (s : List ℕ) (at : ℕ) (l : Line) where
+  pub length-putLine : length (putLine s at l) ≡ length s
+  length-putLine = simp length-put
+
+  pub bytes-putLine : Bytes s → Bytes (putLine s at l)
+  bytes-putLine h = bytes-put _ _ _ _ (bytes-put _ _ _ _ (bytes-put _ _ _ _ (bytes-put _ _ _ _ h)))
+
+  -- the bits outside it stand
+  pub line-out : (k : ℕ) → Outside k at 36 → bitAt (putLine s at l) k ≡ bitAt s k
+  line-out k o =
+      put-out _ (at + 33) 3 _ k (outside-part k at 36 (at + 33) 3 o (omega arith) (omega arith))
+      ∙ put-out _ (at + 16) 17 _ k (outside-part k at 36 (at + 16) 17 o (omega arith) (omega arith))
+      ∙ put-out _ (at + 8) 8 _ k (outside-part k at 36 (at + 8) 8 o (omega arith) (omega arith))
+      ∙ put-out s at 8 _ k (outside-part k at 36 at 8 o (omega arith) (omega arith))
+
+  -- one that fits is read back
+  pub line-put : at + 36 ≤ 8 * length s → Fits l → lineAt (putLine s at l) at ≡ l
+  line-put h f = λ i. line (t i) (w i) (e i) (p i)
+    where
+      t : fieldAt (putLine s at l) at 8 ≡ l .tranches .0
+      t =
+          field-before _ (at + 33) 3 _ at 8 (omega arith) ∙ field-before _ (at + 16) 17 _ at 8 (omega arith) ∙ field-before _ (at + 8) 8 _ at 8 (omega arith)
+          ∙ field-put s at 8 (l .tranches .0) (omega arith) (f .tranches)
+
+      w : fieldAt (putLine s at l) (at + 8) 8 ≡ l .withdrawn .count .0
+      w =
+          field-before _ (at + 33) 3 _ (at + 8) 8 (omega arith) ∙ field-before _ (at + 16) 17 _ (at + 8) 8 (omega arith)
+          ∙ field-put _ (at + 8) 8 (l .withdrawn .count .0) (simp length-put (omega arith)) (f .count)
+
+      e : fieldAt (putLine s at l) (at + 16) 17 ≡ l .withdrawn .exit
+      e =
+          field-before _ (at + 33) 3 _ (at + 16) 17 (omega arith)
+          ∙ field-put _ (at + 16) 17 (l .withdrawn .exit) (simp length-put (omega arith)) (f .exit)
+
+      p : fieldAt (putLine s at l) (at + 33) 3 ≡ l .priority
+      p = field-put _ (at + 33) 3 (l .priority) (simp length-put (omega arith)) (f .priority)
+
+-- ---- the lines put
+
+pub length-putLines : (s : List ℕ) (ls : List Line) (n : ℕ) → length (putLines s ls n) ≡ length s
+unfolding putLines
+length-putLines s ls zero = refl
+length-putLines s ls (suc n) = length-putLine (putLines s ls n) (lineBit n) (getD ls n noLine) ∙ length-putLines s ls n
+
+pub bytes-putLines : (s : List ℕ) (ls : List Line) (n : ℕ) → Bytes s → Bytes (putLines s ls n)
+unfolding putLines
+bytes-putLines s ls zero h = h
+bytes-putLines s ls (suc n) h = bytes-putLine (putLines s ls n) (lineBit n) (getD ls n noLine) (bytes-putLines s ls n h)
+
+pub lines-out : (s : List ℕ) (ls : List Line) (n k : ℕ) → Outside k 17 (36 * n) → bitAt (putLines s ls n) k ≡ bitAt s k
+unfolding putLines
+lines-out s ls zero k o = refl
+lines-out s ls (suc n) k o =
+    line-out (putLines s ls n) (lineBit n) (getD ls n noLine) k (outside-part k 17 (36 * suc n) (lineBit n) 36 o (omega arith) (omega arith))
+    ∙ lines-out s ls n k (outside-part k 17 (36 * suc n) 17 (36 * n) o (omega arith) (omega arith))
+
+pub lines-put : (s : List ℕ) (ls : List Line) (n : ℕ) → lineBit n ≤ 8 * length s → ((i : ℕ) → i < n → Fits (getD ls i noLine)) →
+    (i : ℕ) → i < n → lineAt (putLines s ls n) (lineBit i) ≡ getD ls i noLine
+unfolding putLines
+lines-put s ls zero h f i l = absurd (omega arith)
+lines-put s ls (suc n) h f i l =
+    let t = putLines s ls n in
+    let m = getD ls n noLine in
+    elim (decLt i n) [
+      | yes q ↦
+          line-agree (putLine t (lineBit n) m) t (lineBit i) (λ k a b. line-out t (lineBit n) m k (inl (omega arith)))
+          ∙ lines-put s ls n (omega arith) (λ j p. f j (omega arith)) i q
+      | no q ↦
+          let e : i ≡ n = omega (arith, q) in
+          rw e (line-put t (lineBit n) m (omega (arith, length-putLines s ls n)) (f n (omega arith)))
+    ]
+
+-- ---- the lines read
+
+pub length-read : (s : List ℕ) (n : ℕ) → length (readLines s n) ≡ 8
+unfolding readLines
+length-read s zero = refl
+length-read s (suc n) = simp length-set (length-read s n)
+
+pub read-past : (s : List ℕ) (n i : ℕ) → n ≤ i → i < 8 → getD (readLines s n) i noLine ≡ noLine
+unfolding readLines
+read-past s zero i h l = getD-replicate 8 i noLine noLine l
+read-past s (suc n) i h l =
+    getD-set-other (readLines s n) n i (lineAt s (lineBit n)) noLine (omega arith) ∙ read-past s n i (omega arith) l
+
+pub read-at : (s : List ℕ) (n i : ℕ) → i < n → n ≤ 8 → getD (readLines s n) i noLine ≡ lineAt s (lineBit i)
+unfolding readLines
+read-at s zero i l h = absurd (omega arith)
+read-at s (suc n) i l h =
+    elim (decLt i n) [
+      | yes m ↦ getD-set-other (readLines s n) n i (lineAt s (lineBit n)) noLine (omega arith) ∙ read-at s n i m (omega arith)
+      | no m ↦
+          let e : i ≡ n = omega (arith, m) in
+          rw e (getD-set-same (readLines s n) n (lineAt s (lineBit n)) noLine (omega (arith, length-read s n)))
+    ]
+
+-- the lines of a card are such as can be written
+pub lines-fit : (s : List ℕ) (n : ℕ) → n ≤ 8 → allUpTo (lineWritable n (readLines s n)) 8 ≡ true
+lines-fit s n h = all-of (lineWritable n (readLines s n)) 8 one
+  where
+    one : (i : ℕ) → i < 8 → lineWritable n (readLines s n) i ≡ true
+    one i l =
+        elim (decLt i n) [
+          | yes m ↦ rw (lt-ltb i n m, read-at s n i m h) (read-fits s (lineBit i))
+          | no m ↦
+              let p : n ≤ i = omega (arith, m) in
+              rw (le-ltb i n p, read-past s n i p l)
+        ]

@@ -1,0 +1,362 @@
+// The bid card: "Bits packed most significant first: bidder 5, round 12; then for each product in rank: tranches 8,
+// withdrawn 8, exit price 17, switching priority 3. Zero bits fill the last byte."
+ghost use mathlib.Core.Path.{_≡_};
+ghost use mathlib.Core.Bool.{_&&_, cond};
+ghost use Prim.Native.Nat.{_+_, _*_, _^_, _≤_, _<_};
+ghost use lib.ListN.{length, replicate};
+ghost use lib.Dec.{ltb};
+ghost use Rattle.rules.specs.Bits.{bitAt, fieldAt, setBit, putField};
+ghost use Rattle.rules.specs.Count.{allUpTo};
+ghost use Rattle.rules.specs.Card.{noLine, lineBit, cardLength, lineAt, readLines, readRefused, readCard, putLine, putLines, lineFits, lineZero, writeCard};
+ghost use Rattle.card.specs.Parts.{Inside, fieldIn, lineWritable};
+use rules::Answer;
+use rules::Card;
+use rules::CardRead;
+use rules::Field;
+use rules::Line;
+use rules::Lot;
+use rules::Tranches;
+
+// ---- places
+
+// Where the line of a product begins, and so how many bits so many products take.
+fn line_bit(product: usize) -> usize
+    requires { ⌜ product ≤ 8 ⌝ }
+    ensures { λ r. ⌜ r ≡ lineBit product ⌝ }
+{
+    17 + 36 * product
+}
+
+fn card_length(products: usize) -> usize
+    requires { ⌜ products ≤ 8 ⌝ }
+    ensures { λ r. ⌜ r ≡ cardLength products ⌝ }
+{
+    (line_bit(products) + 7) >> 3
+}
+
+// ---- taking bits
+
+fn bit_at(card: &[u8], place: usize) -> u8
+    requires { ⌜ place < 8 * length (now card) ⌝ }
+    ensures { λ r. ⌜ r ≡ bitAt (now (card .entry)) place ⌝ }
+{
+    (card[place >> 3] >> (7 - (place & 7))) & 1
+}
+
+// The field of so many bits from a place on, or that it ends past the card.
+fn field(card: &[u8], at: usize, width: usize) -> Field
+    ensures { λ r. ⌜ r ≡ fieldIn (now (card .entry)) at width ⌝ }
+{
+    if card.len() > 39 {
+        return Field::Past;
+    }
+    if width > 17 {
+        return Field::Past;
+    }
+    let bits = 8 * card.len();
+    if width > bits {
+        return Field::Past;
+    }
+    if at > bits - width {
+        return Field::Past;
+    }
+    let mut value: u32 = 0;
+    let mut i: usize = 0;
+    while i < width {
+        let bit = bit_at(card, at + i);
+        value = (value << 1) | (bit as u32);
+        i += 1;
+    }
+    Field::Value(value)
+}
+
+// The value of a field that lies inside the card.
+fn value(card: &[u8], at: usize, width: usize) -> u32
+    requires { ⌜ Inside (now card) at width ⌝ }
+    ensures { λ r. ⌜ (r ≡ fieldAt (now (card .entry)) at width) × (r < 2 ^ width) ⌝ }
+{
+    let Field::Value(v) = field(card, at, width) else {
+        return 0;
+    };
+    v
+}
+
+// ---- reading
+
+fn no_line() -> Line
+    ensures { λ r. ⌜ r ≡ noLine ⌝ }
+{
+    Line {
+        tranches: Tranches(0),
+        withdrawn: Lot {
+            count: Tranches(0),
+            exit: 0,
+        },
+        priority: 0,
+    }
+}
+
+fn line_at(card: &[u8], at: usize) -> Line
+    requires { ⌜ (at + 36 ≤ 8 * length (now card)) × (length (now card) ≤ 39) ⌝ }
+    ensures { λ r. ⌜ r ≡ lineAt (now (card .entry)) at ⌝ }
+{
+    let tranches = value(card, at, 8) as u16;
+    let count = value(card, at + 8, 8) as u16;
+    let exit = value(card, at + 16, 17);
+    let priority = value(card, at + 33, 3) as u8;
+    Line {
+        tranches: Tranches(tranches),
+        withdrawn: Lot {
+            count: Tranches(count),
+            exit,
+        },
+        priority,
+    }
+}
+
+fn lines_of(card: &[u8], products: usize) -> [Line; 8]
+    requires { ⌜ (products ≤ 8) × (length (now card) ≡ cardLength products) ⌝ }
+    ensures { λ r. ⌜ r ≡ readLines (now (card .entry)) products ⌝ }
+{
+    let none = no_line();
+    let mut lines = [none; 8];
+    let mut i: usize = 0;
+    while i < products {
+        let at = line_bit(i);
+        lines[i] = line_at(card, at);
+        i += 1;
+    }
+    lines
+}
+
+// A refused read answers its number and an all-zero array.
+fn refused(number: u8) -> CardRead
+    ensures { λ r. ⌜ r ≡ readRefused number ⌝ }
+{
+    let none = no_line();
+    CardRead {
+        card: Card::Refused(number),
+        lines: [none; 8],
+    }
+}
+
+// Reads a card to a bid, for a stated product count.
+pub fn read(card: &[u8], products: usize) -> CardRead
+    ensures { λ r. ⌜ r ≡ readCard (now (card .entry)) products ⌝ }
+{
+    if products < 1 {
+        return refused(29);
+    }
+    if products > 8 {
+        return refused(29);
+    }
+    let used = line_bit(products);
+    let long = card_length(products);
+    if card.len() != long {
+        return refused(4);
+    }
+    let Field::Value(filling) = field(card, used, 8 * long - used) else {
+        return refused(4);
+    };
+    if filling != 0 {
+        return refused(5);
+    }
+    let Field::Value(bidder) = field(card, 0, 5) else {
+        return refused(4);
+    };
+    let Field::Value(round) = field(card, 5, 12) else {
+        return refused(4);
+    };
+    let bidder = bidder as u8;
+    let round = round as u16;
+    let lines = lines_of(card, products);
+    CardRead {
+        card: Card::Bid { bidder, round },
+        lines,
+    }
+}
+
+// ---- placing bits
+
+// The bit at a place is made the given one: the byte's bits above it, the bit, and the bits below it.
+fn put_bit(room: &mut [u8], place: usize, bit: u8)
+    requires { ⌜ (place < 8 * length (now room)) × (bit < 2) ⌝ }
+    ensures { λ _. ⌜ now (room .exit) ≡ setBit (now (room .entry)) place bit ⌝ }
+{
+    let i = place >> 3;
+    let p = 7 - (place & 7);
+    let byte = room[i] as u32;
+    let above = ((byte >> p) >> 1) << 1;
+    let below = byte & ((1u32 << p) - 1);
+    room[i] = (((above | (bit as u32)) << p) | below) as u8;
+}
+
+// The low bits of a value, so many, are placed from a place on.
+fn put_field(room: &mut [u8], at: usize, width: usize, value: u32)
+    requires { ⌜ Inside (now room) at width ⌝ }
+    ensures { λ _. ⌜ now (room .exit) ≡ putField (now (room .entry)) at width value ⌝ }
+{
+    let mut i: usize = 0;
+    while i < width {
+        let bit = ((value >> (width - 1 - i)) & 1) as u8;
+        put_bit(room, at + i, bit);
+        i += 1;
+    }
+}
+
+// ---- writing
+
+fn put_line(room: &mut [u8], at: usize, line: Line)
+    requires { ⌜ (at + 36 ≤ 8 * length (now room)) × (length (now room) ≤ 39) ⌝ }
+    ensures { λ _. ⌜ now (room .exit) ≡ putLine (now (room .entry)) at line ⌝ }
+{
+    put_field(room, at, 8, line.tranches.0 as u32);
+    put_field(room, at + 8, 8, line.withdrawn.count.0 as u32);
+    put_field(room, at + 16, 17, line.withdrawn.exit);
+    put_field(room, at + 33, 3, line.priority as u32);
+}
+
+fn put_lines(room: &mut [u8], lines: [Line; 8], products: usize)
+    requires { ⌜ (products ≤ 8) × (length (now room) ≡ cardLength products) ⌝ }
+    ensures { λ _. ⌜ now (room .exit) ≡ putLines (now (room .entry)) lines products ⌝ }
+{
+    let mut i: usize = 0;
+    while i < products {
+        let at = line_bit(i);
+        let line = lines[i];
+        put_line(room, at, line);
+        i += 1;
+    }
+}
+
+fn clear(room: &mut [u8])
+    ensures { λ _. ⌜ now (room .exit) ≡ replicate (length (now (room .entry))) 0 ⌝ }
+{
+    let mut i: usize = 0;
+    while i < room.len() {
+        room[i] = 0;
+        i += 1;
+    }
+}
+
+fn both(a: bool, b: bool) -> bool
+    ensures { λ r. ⌜ r ≡ (a && b) ⌝ }
+{
+    if a { b } else { false }
+}
+
+// Each field of the line is below 2 to its bits.
+fn line_fits(line: Line) -> bool
+    ensures { λ r. ⌜ r ≡ lineFits line ⌝ }
+{
+    let tranches = line.tranches.0 < 256;
+    let count = line.withdrawn.count.0 < 256;
+    let exit = line.withdrawn.exit < 131072;
+    let priority = line.priority < 8;
+    both(tranches, both(count, both(exit, priority)))
+}
+
+fn line_zero(line: Line) -> bool
+    ensures { λ r. ⌜ r ≡ lineZero line ⌝ }
+{
+    let tranches = line.tranches.0 == 0;
+    let count = line.withdrawn.count.0 == 0;
+    let exit = line.withdrawn.exit == 0;
+    let priority = line.priority == 0;
+    both(tranches, both(count, both(exit, priority)))
+}
+
+fn line_writable(products: usize, product: usize, line: Line) -> bool
+    ensures { λ r. ⌜ r ≡ cond (ltb product products) (lineFits line) (lineZero line) ⌝ }
+{
+    if product < products {
+        line_fits(line)
+    } else {
+        line_zero(line)
+    }
+}
+
+fn lines_writable(products: usize, lines: [Line; 8]) -> bool
+    ensures { λ r. ⌜ r ≡ allUpTo (lineWritable products lines) 8 ⌝ }
+{
+    let mut all = true;
+    let mut i: usize = 0;
+    while i < 8 {
+        let line = lines[i];
+        let one = line_writable(products, i, line);
+        all = both(all, one);
+        i += 1;
+    }
+    all
+}
+
+// Writes a bid as a card, for a stated product count, into room of the card's length.
+pub fn write(room: &mut [u8], products: usize, bidder: u8, round: u16, lines: [Line; 8]) -> Answer
+    ensures { λ r. ⌜ (r ≡ writeCard (now (room .entry)) products bidder round lines .answer) × (now (room .exit) ≡ writeCard (now (room .entry)) products bidder round lines .bytes) ⌝ }
+{
+    if products < 1 {
+        return Answer::Refused(29);
+    }
+    if products > 8 {
+        return Answer::Refused(29);
+    }
+    let long = card_length(products);
+    if room.len() != long {
+        return Answer::Refused(4);
+    }
+    if bidder > 31 {
+        return Answer::Refused(30);
+    }
+    if round > 4095 {
+        return Answer::Refused(30);
+    }
+    let fit = lines_writable(products, lines);
+    if !fit {
+        return Answer::Refused(30);
+    }
+    clear(room);
+    put_field(room, 0, 5, bidder as u32);
+    put_field(room, 5, 12, round as u32);
+    put_lines(room, lines, products);
+    Answer::Done
+}
+
+// ---- a reader
+
+// "A reader over a lent card holds the card and the place of the next bit."
+pub struct Reader<'a> {
+    pub card: &'a [u8],
+    pub at: usize,
+}
+
+impl<'a> Reader<'a> {
+    pub fn new(card: &'a [u8]) -> Reader<'a>
+        ensures { λ r. ⌜ (r .card ≡ card .entry) × (r .at ≡ 0) ⌝ }
+    {
+        Reader { card, at: 0 }
+    }
+
+    // The field of so many bits from the next bit on.
+    pub fn take(self, width: usize) -> Field
+        ensures { λ r. ⌜ r ≡ fieldIn (now (self .entry .card)) (self .entry .at) width ⌝ }
+    {
+        field(self.card, self.at, width)
+    }
+
+    // Moved on: the same card, and the next bit at another place.
+    pub fn moved(self, at: usize) -> Reader<'a>
+        ensures { λ r. ⌜ (r .card ≡ self .entry .card) × (r .at ≡ at) ⌝ }
+    {
+        Reader {
+            card: self.card,
+            at,
+        }
+    }
+}
+
+// The round on a card of any count, without the rest of it. Its parameter is a plain slice: callers need know no reader.
+pub fn round_of(card: &[u8]) -> Field
+    ensures { λ r. ⌜ r ≡ fieldIn (now (card .entry)) 5 12 ⌝ }
+{
+    Reader::new(card).moved(5).take(12)
+}
