@@ -1,2 +1,4 @@
 pub mod Runs
 pub mod Offered
+pub mod Awards
+pub mod Demands

@@ -99,7 +99,7 @@ module _ (s : List ℕ) (n : ℕ) where
 -- ---- file
 
 -- a number not given, where the test must pass
-granted : (t : Bool) (x n : ℕ) → 0 < n → cond t x n ≡ 0 → (t ≡ true) × (x ≡ 0)
+pub granted : (t : Bool) (x n : ℕ) → 0 < n → cond t x n ≡ 0 → (t ≡ true) × (x ≡ 0)
 granted true x n h e = (refl, e)
 granted false x n h e = absurd (let z : ⊥ = omega arith in z)
 
@@ -112,7 +112,7 @@ card-by a ls (Bid b r) h e =
 card-by a ls (Refused k) h e = absurd (let z : ⊥ = omega (arith, h k refl) in z)
 
 -- what a card filed is: bids are open, and it is accepted of its bidder
-file-take : (a : Auction) (s : List ℕ) → cardNumber s a ≡ 0
+pub file-take : (a : Auction) (s : List ℕ) → cardNumber s a ≡ 0
     → (isOpen a ≡ true) × (bidderOn (readCard s (a .terms .products) .card) < a .terms .bidders)
     × (judged a (bidderOn (readCard s (a .terms .products) .card)) (readCard s (a .terms .products) .lines) ≡ 0)
 file-take a s e =

@@ -25,3 +25,4 @@ pub mod Prices
 pub mod Settled
 pub mod Round
 pub mod Offers
+pub mod OneCall

@@ -28,27 +28,22 @@ use Rattle.rules.proofs.Booked.{Booked, kept-end, trail, unticked, fres
 use Rattle.rules.proofs.Settled.{settled-held, settled-record}
 use Rattle.rules.proofs.Round.{round-terms, round-prices}
 
--- each of g, d and r was offered: Off b p c x says that bidder b offered c tranches of product p at the price x
-pub record BackedOn (t : Terms) (Off : ℕ → ℕ → ℕ → ℕ → Type 0) (a : Auction) : Type 0 where
+-- O b p c x says that bidder b offered c tranches of product p at the price x
+abbrev pub Offers : Type 1
+Offers = ℕ → ℕ → ℕ → ℕ → Type 0
+
+-- each of g, d and r was offered: g in the last round, d in a round before it, r at its exit price
+pub record BackedOn (t : Terms) (Going Before Exit : Offers) (a : Auction) : Type 0 where
   pub going : (b p : ℕ) → b < t .bidders → p < t .products → 0 < goingIn (recordOf a b p)
-      → (c x : ℕ) × (goingIn (recordOf a b p) ≤ c) × Off b p c x × (x ≤ beforeAt a p)
+      → (c x : ℕ) × (goingIn (recordOf a b p) ≤ c) × Going b p c x × (x ≤ beforeAt a p)
       × (held (a .records) (t .bidders) p ≤ targetOf t p → x ≤ priceAt a p)
   pub denied : (b p : ℕ) → b < t .bidders → p < t .products → 0 < deniedIn (recordOf a b p)
-      → (c x : ℕ) × (deniedIn (recordOf a b p) ≤ c) × Off b p c x × (x ≤ beforeAt a p)
+      → (c x : ℕ) × (deniedIn (recordOf a b p) ≤ c) × Before b p c x × (x ≤ beforeAt a p)
   pub retained : (b p : ℕ) → b < t .bidders → p < t .products → 0 < retainedIn (recordOf a b p)
-      → (c : ℕ) × (retainedIn (recordOf a b p) ≤ c) × Off b p c (exitIn (recordOf a b p))
+      → (c : ℕ) × (retainedIn (recordOf a b p) ≤ c) × Exit b p c (exitIn (recordOf a b p))
 
-abbrev pub Backed : (ℕ → ℕ → ℕ → ℕ → Type 0) → Auction → Type 0
-Backed Off a = BackedOn (a .terms) Off a
-
--- more offers back no less
-pub backed-more : (Off More : ℕ → ℕ → ℕ → ℕ → Type 0) (t : Terms) (a : Auction)
-    → ((b p c x : ℕ) → Off b p c x → More b p c x) → BackedOn t Off a → BackedOn t More a
-backed-more Off More t a f B = record {
-  going = λ b p hb hp h. let r = B .going b p hb hp h in (r .0, r .1, r .2, f b p _ _ (r .3), r .4, r .5);
-  denied = λ b p hb hp h. let r = B .denied b p hb hp h in (r .0, r .1, r .2, f b p _ _ (r .3), r .4);
-  retained = λ b p hb hp h. let r = B .retained b p hb hp h in (r .0, r .1, f b p _ _ (r .2));
-}
+abbrev pub Backed : Offers → Offers → Offers → Auction → Type 0
+Backed Going Before Exit a = BackedOn (a .terms) Going Before Exit a
 
 -- ---- one round
 
@@ -107,21 +102,25 @@ module _ (a : Auction) (draw : List ℕ) (S : Stands a) (L : Long a) (op : isOpe
   before-for p hp h false e = round-prices a draw S L op D A p hp .ended e .1
 
   -- the bids of the round offer b at the going price and the withdrawals at their exit price, deeming g + d at the going price
-  module _ (Off : ℕ → ℕ → ℕ → ℕ → Type 0) (old : Backed Off a)
-      (card : (b p : ℕ) → b < a .terms .bidders → p < a .terms .products → Off b p (bidIn (bidOn a b p)) (priceAt a p))
-      (exit : (b p : ℕ) → b < a .terms .bidders → p < a .terms .products → 0 < withdrawnIn (bidOn a b p)
-      → Off b p (withdrawnIn (bidOn a b p)) (exitOn (bidOn a b p)))
+  -- what stood at the going price has now been offered before
+  module _ (Going Before Exit Going′ Before′ Exit′ : Offers) (old : Backed Going Before Exit a)
+      (card : (b p : ℕ) → b < a .terms .bidders → p < a .terms .products → Going′ b p (bidIn (bidOn a b p)) (priceAt a p))
       (deemed : (b p : ℕ) → b < a .terms .bidders → p < a .terms .products → ticked a p ≡ false
       → 0 < riseOf (placeAt (afterStep2 a draw .places) (b * 8 + p))
-      → Off b p (worthOf (placeAt (afterStep2 a draw .places) (b * 8 + p))) (priceAt a p)) where
+      → Going′ b p (worthOf (placeAt (afterStep2 a draw .places) (b * 8 + p))) (priceAt a p))
+      (passed : (b p c x : ℕ) → Going b p c x → Before′ b p c x)
+      (before : (b p c x : ℕ) → Before b p c x → Before′ b p c x)
+      (exit : (b p : ℕ) → b < a .terms .bidders → p < a .terms .products → 0 < withdrawnIn (bidOn a b p)
+      → Exit′ b p (withdrawnIn (bidOn a b p)) (exitOn (bidOn a b p)))
+      (exits : (b p c x : ℕ) → Exit b p c x → Exit′ b p c x) where
     going-by : (b p : ℕ) → b < n → p < m → (s u : Bool) → ticked a p ≡ s → ltb 0 (riseOf (at2 b p)) ≡ u
-        → (c : ℕ) × (goingOf (cond (not s && u) (deem (at2 b p)) (at2 b p)) ≤ c) × Off b p c (priceAt a p)
+        → (c : ℕ) × (goingOf (cond (not s && u) (deem (at2 b p)) (at2 b p)) ≤ c) × Going′ b p c (priceAt a p)
     going-by b p hb hp true u e f = (bidIn (bidOn a b p), omega (arith, trail a draw S L op D A b p hb hp), card b p hb hp)
     going-by b p hb hp false true e f = (worthOf (at2 b p), omega arith, deemed b p hb hp e (ltb-true _ _ f))
     going-by b p hb hp false false e f = (bidIn (bidOn a b p), omega (arith, trail a draw S L op D A b p hb hp), card b p hb hp)
 
     -- g was bid or deemed bid at this round's price
-    going-of : (b p : ℕ) → b < n → p < m → (c : ℕ) × (goingOf (at4 b p) ≤ c) × Off b p c (priceAt a p)
+    going-of : (b p : ℕ) → b < n → p < m → (c : ℕ) × (goingOf (at4 b p) ≤ c) × Going′ b p c (priceAt a p)
     going-of b p hb hp =
         let e : (b * 8 + p) % 8 ≡ p = omega (arith, S .limits .products) in
         let x = deemed-exact (ticked a) (afterStep2 a draw .places) (n * 8) (b * 8 + p) (kept-end a draw S L op D A .keepable .long)
@@ -133,21 +132,21 @@ module _ (a : Auction) (draw : List ℕ) (S : Stands a) (L : Long a) (op : isOpe
 
     -- d was held at the price before a fall, or denied in an earlier round
     denied-by : (b p : ℕ) → b < n → p < m → 0 < deniedOf (at4 b p) → (s : Bool) → ticked a p ≡ s
-        → (c x : ℕ) × (deniedOf (at4 b p) ≤ c) × Off b p c x × (x ≤ beforeAt a p)
+        → (c x : ℕ) × (deniedOf (at4 b p) ≤ c) × Before′ b p c x × (x ≤ beforeAt a p)
     denied-by b p hb hp h true e =
         let T = trail a draw S L op D A b p hb hp in
         let F = fresh a draw S L op D A b p hb hp e in
         let g = old .going b p hb hp (omega arith) in
-        (g .0, g .1, omega (arith, g .2), g .3, g .4)
+        (g .0, g .1, omega (arith, g .2), passed b p (g .0) (g .1) (g .3), g .4)
     denied-by b p hb hp h false e =
         let T = trail a draw S L op D A b p hb hp in
         let U = unticked a draw S L op D A b p hb hp e in
         let g = old .denied b p hb hp (omega arith) in
-        (g .0, g .1, omega (arith, g .2), g .3, g .4)
+        (g .0, g .1, omega (arith, g .2), before b p (g .0) (g .1) (g .3), g .4)
 
     -- r was withdrawn at its exit price, in this round or an earlier one
     retained-by : (b p : ℕ) → b < n → p < m → 0 < retainedOf (at4 b p) → (s : Bool) → ticked a p ≡ s
-        → (c : ℕ) × (retainedOf (at4 b p) ≤ c) × Off b p c (exitOf (at4 b p))
+        → (c : ℕ) × (retainedOf (at4 b p) ≤ c) × Exit′ b p c (exitOf (at4 b p))
     retained-by b p hb hp h true e =
         let T = trail a draw S L op D A b p hb hp in
         let F = fresh a draw S L op D A b p hb hp e in
@@ -158,9 +157,9 @@ module _ (a : Auction) (draw : List ℕ) (S : Stands a) (L : Long a) (op : isOpe
         let U = unticked a draw S L op D A b p hb hp e in
         let x = T .outed .exit h ∙ T .deemed .exit ∙ U .exit in
         let g = old .retained b p hb hp (omega arith) in
-        (g .0, omega (arith, g .1), rw x (g .2))
+        (g .0, omega (arith, g .1), rw x (exits b p (g .0) _ (g .2)))
 
-    backs : BackedOn (a .terms) Off z
+    backs : BackedOn (a .terms) Going′ Before′ Exit′ z
     backs = record {
       going = λ b p hb hp h.
           let r = going-of b p hb hp in
@@ -174,12 +173,12 @@ module _ (a : Auction) (draw : List ℕ) (S : Stands a) (L : Long a) (op : isOpe
       retained = λ b p hb hp h.
           let q = ap retainedIn (record-is b p hb hp) in
           let r = retained-by b p hb hp (omega arith) (ticked a p) refl in
-          (r .0, omega (arith, r .1), subst (λ y. Off b p (r .0) (exitIn y)) (sym (record-is b p hb hp)) (r .2));
+          (r .0, omega (arith, r .1), subst (λ y. Exit′ b p (r .0) (exitIn y)) (sym (record-is b p hb hp)) (r .2));
     }
 
     -- a round carries it on, given what its bids, default bids and deemed bids offered
-    pub round-offers : Backed Off (calculated a draw .auction)
-    round-offers = subst (λ t. BackedOn t Off z) (sym (round-terms a draw S L op D A)) backs
+    pub round-offers : Backed Going′ Before′ Exit′ (calculated a draw .auction)
+    round-offers = subst (λ t. BackedOn t Going′ Before′ Exit′ z) (sym (round-terms a draw S L op D A)) backs
 
 -- ---- the price paid
 
@@ -235,20 +234,20 @@ module _ (a : Auction) (S : Stands a) where
         paid (exitIn (recordOf a b p)) (omega (arith, w)) (omega arith)
 
 -- k tranches that bidder b is awarded on product p were offered by it at no more than the price paid
-abbrev pub Offered : (ℕ → ℕ → ℕ → ℕ → Type 0) → Auction → ℕ → ℕ → ℕ → Type 0
+abbrev pub Offered : Offers → Auction → ℕ → ℕ → ℕ → Type 0
 Offered Off a b p k = (c x : ℕ) × (k ≤ c) × Off b p c x × (x ≤ paidOn a p)
 
 -- every awarded tranche was offered at no more than the price it is paid
-module _ (a : Auction) (S : Stands a) (c : a .phase ≡ closed) (Off : ℕ → ℕ → ℕ → ℕ → Type 0) (B : Backed Off a)
+module _ (a : Auction) (S : Stands a) (c : a .phase ≡ closed) (Going Before Exit : Offers) (B : Backed Going Before Exit a)
     (b p : ℕ) (hb : b < a .terms .bidders) (hp : p < a .terms .products) where
   -- of g, of d and of r
-  pub award-going : 0 < goingIn (recordOf a b p) → Offered Off a b p (goingIn (recordOf a b p))
+  pub award-going : 0 < goingIn (recordOf a b p) → Offered Going a b p (goingIn (recordOf a b p))
   award-going h =
       let r = B .going b p hb hp h in
       (r .0, r .1, r .2, r .3, omega (arith, r .5 (closed-within a S c p hp), paid-going a S b p hb hp h))
 
-  pub award-denied : 0 < deniedIn (recordOf a b p) → Offered Off a b p (deniedIn (recordOf a b p))
+  pub award-denied : 0 < deniedIn (recordOf a b p) → Offered Before a b p (deniedIn (recordOf a b p))
   award-denied h = let r = B .denied b p hb hp h in (r .0, r .1, r .2, r .3, omega (arith, r .4, paid-denied a S b p hb hp h))
 
-  pub award-retained : 0 < retainedIn (recordOf a b p) → Offered Off a b p (retainedIn (recordOf a b p))
+  pub award-retained : 0 < retainedIn (recordOf a b p) → Offered Exit a b p (retainedIn (recordOf a b p))
   award-retained h = let r = B .retained b p hb hp h in (r .0, exitIn (recordOf a b p), r .1, r .2, paid-retained a S b p hb hp h)

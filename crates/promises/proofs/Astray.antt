@@ -1,0 +1,88 @@
+-- Demand 1: "No bytes, card, draw or call order may stop it or lead it astray." Assumes nothing.
+use mathlib.Core.Path.{_≡_, refl, _∙_, ap}
+use mathlib.Core.Bool.{Bool, true, false}
+use mathlib.Core.Logic.{_⊎_, inl, inr}
+use mathlib.Core.List.{List, [], _∷_}
+use Prim.Native.Nat.{ℕ}
+use native.Mathlib.Omega.{arith}
+use borrow.Author.Tests.{eqb-true, eqb-false}
+use lib.ListN.{length, length-replicate}
+use lib.Dec.{eqb}
+use Rattle.rules.specs.declared.Settings.{Settings}
+use Rattle.rules.specs.Layout.{stateLength, allZero}
+use Rattle.rules.specs.Calls.{openNumber, openCall, returnCall}
+use Rattle.rules.proofs.OneCall.{StandsIn, issued-not-standing, open-refused, file-refused, calculate-refused, return-issued, open-stands}
+use Rattle.promises.specs.Runs.{Call, opens, files, counts, calculates, reports, results, reads, writes, after}
+use Rattle.promises.proofs.Steps.{after-stands}
+
+-- of the right length, and all zero
+pub record Issued (s : List ℕ) : Type 0 where
+  pub long : length s ≡ 3333
+  pub zero : allZero s ≡ true
+
+abbrev pub IssuedOrStanding : List ℕ → Type 0
+IssuedOrStanding s = Issued s ⊎ StandsIn s
+
+-- settings come with arrays of their lengths
+abbrev pub Sized : Call → Type 0
+Sized (opens x) = (length (x .eligibility) ≡ 32) × (length (x .row) ≡ 8)
+Sized (files c) = Unit {0}
+Sized counts = Unit {0}
+Sized (calculates draw) = Unit {0}
+Sized (reports b) = Unit {0}
+Sized results = Unit {0}
+Sized (reads c n) = Unit {0}
+Sized (writes room n b r ls) = Unit {0}
+
+module _ (s : List ℕ) (I : Issued s) where
+  stays : (t : List ℕ) → t ≡ s → IssuedOrStanding t
+  stays t e = rw e (inl I)
+
+  open-by : (x : Settings) (t : Bool) → eqb (openNumber s x) 0 ≡ t → length (x .eligibility) ≡ 32 → length (x .row) ≡ 8
+      → IssuedOrStanding (openCall s x .bytes)
+  open-by x true e i r = inr (open-stands s x (eqb-true (openNumber s x) 0 e) i r)
+  open-by x false e i r = stays _ (open-refused s x (eqb-false (openNumber s x) 0 e))
+
+  issued-after : (c : Call) → Sized c → IssuedOrStanding (after s c)
+  issued-after (opens x) h = open-by x (eqb (openNumber s x) 0) refl (h .0) (h .1)
+  issued-after (files c) h =
+      let n = issued-not-standing s (I .long) (I .zero) .1 c in
+      stays _ (file-refused s c (λ e. omega arith))
+  issued-after counts h = inl I
+  issued-after (calculates draw) h =
+      let n = issued-not-standing s (I .long) (I .zero) .3 draw in
+      stays _ (calculate-refused s draw (λ e. omega arith))
+  issued-after (reports b) h = inl I
+  issued-after results h = inl I
+  issued-after (reads c n) h = inl I
+  issued-after (writes room n b r ls) h = inl I
+
+call-keeps : (s : List ℕ) → IssuedOrStanding s → (c : Call) → Sized c → IssuedOrStanding (after s c)
+call-keeps s (inl I) c h = issued-after s I c h
+call-keeps s (inr S) c h = inr (after-stands s S c)
+
+-- a return leaves any state of the right length as first issued
+pub return-keeps : (s : List ℕ) → length s ≡ 3333 → Issued (returnCall s .bytes)
+return-keeps s l =
+    let r = return-issued s l in
+    record { long = ap length (r .1) ∙ length-replicate {A = ℕ} stateLength 0; zero = r .2 }
+
+long-of : (s : List ℕ) → IssuedOrStanding s → length s ≡ 3333
+long-of s (inl I) = I .long
+long-of s (inr S) = S .long
+
+-- a box is called and returned, in any order
+pub data Use : Type 0 where
+  called : (c : Call) → Sized c → Use
+  returned : Use
+
+abbrev pub used : List ℕ → List Use → List ℕ
+used s [] = s
+used s (called c h ∷ us) = used (after s c) us
+used s (returned ∷ us) = used (returnCall s .bytes) us
+
+-- from an issued or standing state no order of calls and returns leads anywhere else
+pub never-astray : (s : List ℕ) → IssuedOrStanding s → (us : List Use) → IssuedOrStanding (used s us)
+never-astray s K [] = K
+never-astray s K (called c h ∷ us) = never-astray (after s c) (call-keeps s K c h) us
+never-astray s K (returned ∷ us) = never-astray (returnCall s .bytes) (inl (return-keeps s (long-of s K))) us

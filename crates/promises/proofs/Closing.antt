@@ -1,0 +1,220 @@
+-- Demand 3 "If the auction closes": targets and closing bids. Assumes nothing.
+use mathlib.Core.Path.{_≡_, refl, sym, _∙_, ap, subst}
+use mathlib.Core.Bool.{Bool, true, false, cond}
+use mathlib.Core.Logic.{_⊎_, inl, inr}
+use mathlib.Core.List.{List, [], _∷_, _++_}
+use Prim.Native.Nat.{ℕ, _+_, _*_, _≤_, _<_}
+use native.Mathlib.Omega.{arith}
+use borrow.Author.Tests.{eqb-true, eq-eqb}
+use lib.ListN.{length, getD}
+use lib.Dec.{eqb}
+use Rattle.rules.specs.declared.Settings.{Settings}
+use Rattle.rules.specs.declared.Terms.{Terms}
+use Rattle.rules.specs.declared.Auction.{Auction}
+use Rattle.rules.specs.Count.{sumUpTo}
+use Rattle.rules.specs.Units.{tranches, amountOf, priceOf, quote}
+use Rattle.rules.specs.Answers.{closed}
+use Rattle.rules.specs.Settings.{termsOf, targetOf}
+use Rattle.rules.specs.Held.{heldIn, recordAt, held}
+use Rattle.rules.specs.Bid.{bidIn, recordOf, bidOn}
+use Rattle.rules.specs.Report.{paidOn, resultOf}
+use Rattle.rules.specs.Round.{calculated}
+use Rattle.rules.specs.Layout.{loaded}
+use Rattle.rules.specs.Standing.{isOpen}
+use Rattle.rules.specs.Calls.{opened, openNumber, cardNumber, withCard, calculateNumber, closedNumber, resultNumber, resultCall}
+use Rattle.rules.proofs.Sums.{sum-ext}
+use Rattle.rules.proofs.Lists.{clash, list-at}
+use Rattle.rules.proofs.Storing.{loaded-long}
+use Rattle.rules.proofs.Bids.{bids-accepted}
+use Rattle.rules.proofs.Calling.{granted}
+use Rattle.rules.proofs.Round.{round-closes}
+use Rattle.rules.proofs.Offers.{closed-within}
+use Rattle.rules.proofs.OneCall.{StandsIn, stood, of-standing, open-stands, open-loaded, open-standing, file-refused, calculate-accepts, calculate-loaded, calculate-refused}
+use Rattle.promises.specs.Runs.{Call, opens, files, counts, calculates, reports, results, reads, writes, after, run, openedBy, filledPart, Round, roundOf}
+use Rattle.promises.specs.Awards.{Closed, awardOn, paidFor}
+use Rattle.promises.proofs.Promised.{never-falls}
+use Rattle.promises.proofs.Steps.{Step, same, card, round, step, after-stands, run-later, opened-stands, opened-terms}
+use Rattle.promises.specs.Demands.{ClosingBid}
+
+-- ---- the result of a closed state
+
+amount-is : (t : Bool) (x : ℕ) → amountOf (cond t (priceOf 0 x) (priceOf 1 x)) ≡ x
+amount-is true x = refl
+amount-is false x = refl
+
+module _ (s : List ℕ) (S : StandsIn s) (c : Closed s) where
+  -- a closed state that stands gives its result
+  pub closed-gives : resultNumber s ≡ 0
+  closed-gives = of-standing s S 16 closedNumber ∙ rw (eq-eqb (loaded s .phase) closed c)
+
+  result-is : resultCall s ≡ resultOf (loaded s)
+  unfolding resultCall
+  result-is = rw closed-gives
+
+  -- the award of a bidder on a product is what its record holds
+  pub award-is : (b p : ℕ) → b < loaded s .terms .bidders → p < loaded s .terms .products
+      → awardOn s b p ≡ heldIn (recordOf (loaded s) b p)
+  unfolding resultOf
+  award-is b p hb hp =
+      let L = stood s S .limits in
+      ap (λ r. getD (r .tranches) (b * 8 + p) (tranches 0) .0) result-is
+      ∙ ap (λ t. t .0) (list-at (λ k. tranches (heldIn (recordAt (loaded s .records) k))) (tranches 0) 256 (b * 8 + p) (omega arith))
+
+  -- the price of a product is the highest at which a tranche of it is held
+  pub paid-is : (p : ℕ) → p < loaded s .terms .products → paidFor s p ≡ paidOn (loaded s) p
+  unfolding resultOf
+  paid-is p hp =
+      let L = stood s S .limits in
+      ap (λ r. amountOf (getD (r .prices) p (quote 0 0) .price)) result-is
+      ∙ ap (λ q. amountOf (q .price)) (list-at (λ p. quote (loaded s .terms .unit) (paidOn (loaded s) p)) (quote 0 0) 8 p (omega arith))
+      ∙ amount-is (eqb (loaded s .terms .unit) 0) (paidOn (loaded s) p)
+
+  awards-are : (p : ℕ) → p < loaded s .terms .products
+      → sumUpTo (λ b. awardOn s b p) (loaded s .terms .bidders) ≡ held (loaded s .records) (loaded s .terms .bidders) p
+  awards-are p hp = sum-ext _ _ (loaded s .terms .bidders) (λ b hb. award-is b p hb hp)
+
+  -- no award passes a target
+  awards-within : (p : ℕ) → p < loaded s .terms .products
+      → sumUpTo (λ b. awardOn s b p) (loaded s .terms .bidders) ≤ targetOf (loaded s .terms) p
+  awards-within p hp = omega (arith, awards-are p hp, closed-within (loaded s) (stood s S) c p hp)
+
+  -- a product that is filled is awarded its target
+  awards-filled : (p : ℕ) → p < loaded s .terms .products → targetOf (loaded s .terms) p ≤ filledPart (loaded s) p
+      → sumUpTo (λ b. awardOn s b p) (loaded s .terms .bidders) ≡ targetOf (loaded s .terms) p
+  awards-filled p hp f = omega (arith, awards-are p hp, awards-within p hp)
+
+-- ---- where bids are not open, no call changes the state
+
+module _ (s : List ℕ) (S : StandsIn s) (o : isOpen (loaded s) ≡ false) where
+  ended-after : (c : Call) → after s c ≡ s
+  ended-after (opens x) = open-standing s x S .1
+  ended-after (files c) =
+      file-refused s c (λ n. clash (granted (isOpen (loaded s)) _ 3 (omega arith) (sym (of-standing s S 3 (cardNumber c)) ∙ n) .0) o)
+  ended-after counts = refl
+  ended-after (calculates draw) = calculate-refused s draw (λ n. clash (calculate-accepts s S draw n .0) o)
+  ended-after (reports b) = refl
+  ended-after results = refl
+  ended-after (reads c n) = refl
+  ended-after (writes room n b r ls) = refl
+
+  pub ended-stays : (cs : List Call) → run s cs ≡ s
+  ended-stays [] = refl
+  ended-stays (c ∷ cs) = ap (λ t. run t cs) (ended-after c) ∙ ended-stays cs
+
+-- ---- the round that closed
+
+-- a call calculates a round, or calculates none
+abbrev Calculates : List ℕ → Call → Type 0
+Calculates s c = (roundOf s c ≡ []) ⊎ ((draw : List ℕ) × (c ≡ calculates draw) × (calculateNumber s draw ≡ 0))
+
+calculates-by : (s draw : List ℕ) (t : Bool) → eqb (calculateNumber s draw) 0 ≡ t → Calculates s (calculates draw)
+calculates-by s draw true e = inr (draw, refl, eqb-true (calculateNumber s draw) 0 e)
+calculates-by s draw false e = inl (rw e)
+
+calculation : (s : List ℕ) (c : Call) → Calculates s c
+calculation s (opens x) = inl refl
+calculation s (files c) = inl refl
+calculation s counts = inl refl
+calculation s (calculates draw) = calculates-by s draw (eqb (calculateNumber s draw) 0) refl
+calculation s (reports b) = inl refl
+calculation s results = inl refl
+calculation s (reads c n) = inl refl
+calculation s (writes room n b r ls) = inl refl
+
+-- a call that calculates none leaves the phase
+phase-kept : {a z : Auction} {rs : List Round} → Step a z rs → rs ≡ [] → z .phase ≡ a .phase
+unfolding withCard
+phase-kept same e = refl
+phase-kept (card b ls) e = refl
+phase-kept (round draw o D) e = let z : _≡_ {A = ℕ} 0 1 = cc in absurd (let x : ⊥ = omega arith in x)
+
+module _ (s : List ℕ) (S : StandsIn s) (o : isOpen (loaded s) ≡ true) where
+  -- the calculation that closed, with the calls that follow it
+  closing-now : (draw : List ℕ) → calculateNumber s draw ≡ 0 → (cs : List Call)
+      → isOpen (loaded (after s (calculates draw))) ≡ false → Closed (run (after s (calculates draw)) cs)
+      → ClosingBid s (loaded s .terms) (calculates draw ∷ cs)
+  closing-now draw n cs e z =
+      let q = after s (calculates draw) in
+      let Q = after-stands s S (calculates draw) in
+      let u = ended-stays q Q e cs in
+      let w : Closed q = rw u at z in
+      let l = calculate-loaded s S draw n in
+      let d = calculate-accepts s S draw n in
+      let k = round-closes (loaded s) draw (stood s S) (loaded-long s) (d .0) (d .1) (bids-accepted (loaded s) (stood s S) o) (rw l at w) in
+      let t : loaded q .terms ≡ loaded s .terms = run-later s S (calculates draw ∷ []) .terms in
+      let m = ap (λ t. t .products) t in
+      let b = ap (λ t. t .bidders) t in
+      record {
+        before = [];
+        draw = draw;
+        rest = cs;
+        split = refl;
+        bidding = o;
+        accepted = n;
+        closing = w;
+        asked = λ i h.
+            let x = sum-ext (λ p. awardOn q i p) (λ p. heldIn (recordOf (calculated (loaded s) draw .auction) i p)) (loaded s .terms .products)
+            (λ p hp. award-is q Q w i p (omega arith) (omega arith) ∙ ap (λ a. heldIn (recordOf a i p)) l) in
+            subst (λ y. sumUpTo (λ p. bidIn (bidOn (loaded s) i p)) (loaded s .terms .products) ≤ sumUpTo (λ p. awardOn y i p) (loaded s .terms .products))
+            (sym u) (omega (arith, k .asked i h));
+      }
+
+-- one call more at the beginning
+closing-later : (s : List ℕ) (c : Call) (t : Terms) (cs : List Call) → ClosingBid (after s c) t cs → ClosingBid s t (c ∷ cs)
+closing-later s c t cs C = record {
+  before = c ∷ C .before;
+  draw = C .draw;
+  rest = C .rest;
+  split = ap (λ l. c ∷ l) (C .split);
+  bidding = C .bidding;
+  accepted = C .accepted;
+  closing = C .closing;
+  asked = C .asked;
+}
+
+-- from any open standing state that ends closed there is such a calculation
+closes-by : (s : List ℕ) → StandsIn s → isOpen (loaded s) ≡ true → (cs : List Call) → Closed (run s cs) → ClosingBid s (loaded s .terms) cs
+closes-by s S o [] z =
+    let x = eqb-true (loaded s .phase) 1 o in
+    absurd (let w : ⊥ = omega arith in w)
+closes-by s S o (c ∷ cs) z = by (isOpen (loaded (after s c))) refl (λ o. closes-by (after s c) (after-stands s S c) o cs) (calculation s c)
+  where
+    by : (t : Bool) → isOpen (loaded (after s c)) ≡ t
+        → (isOpen (loaded (after s c)) ≡ true → Closed (run (after s c) cs) → ClosingBid (after s c) (loaded (after s c) .terms) cs)
+        → Calculates s c → ClosingBid s (loaded s .terms) (c ∷ cs)
+    by true e f k =
+        closing-later s c (loaded s .terms) cs
+        (subst (λ t. ClosingBid (after s c) t cs) (run-later s S (c ∷ []) .terms) (f e z))
+    by false e f (inl k) = clash (ap (λ p. eqb p 1) (phase-kept (step s S c) k) ∙ o) e
+    by false e f (inr k) =
+        subst (λ d. ClosingBid s (loaded s .terms) (d ∷ cs)) (sym (k .1))
+        (closing-now s S o (k .0) (k .2) cs (subst (λ d. isOpen (loaded (after s d)) ≡ false) (k .1) e)
+        (subst (λ d. Closed (run (after s d) cs)) (k .1) z))
+
+-- ---- from an opening
+
+module _ (s : List ℕ) (x : Settings) (new : openNumber s x ≡ 0) (e : length (x .eligibility) ≡ 32) (r : length (x .row) ≡ 8)
+    (cs : List Call) where
+  -- "no award passes a target"
+  pub no-award-over-target : Closed (run (openedBy s x) cs) → (p : ℕ) → p < termsOf x .products
+      → sumUpTo (λ b. awardOn (run (openedBy s x) cs) b p) (termsOf x .bidders) ≤ targetOf (termsOf x) p
+  no-award-over-target c = rw (opened-terms s x new e r cs) at (awards-within _ (opened-stands s x new e r cs) c)
+
+  -- "a product once filled is awarded exactly its target"
+  pub once-filled : (ds : List Call) → Closed (run (openedBy s x) (cs ++ ds)) → (p : ℕ) → p < termsOf x .products
+      → filledPart (loaded (run (openedBy s x) cs)) p ≡ targetOf (termsOf x) p
+      → sumUpTo (λ b. awardOn (run (openedBy s x) (cs ++ ds)) b p) (termsOf x .bidders) ≡ targetOf (termsOf x) p
+  once-filled ds c p h f =
+      let t = opened-terms s x new e r (cs ++ ds) in
+      let m = ap (λ t. t .products) t in
+      let v = ap (λ t. targetOf t p) t in
+      let n = never-falls s x new e r cs ds p h in
+      rw t at (awards-filled _ (opened-stands s x new e r (cs ++ ds)) c p (omega arith) (omega arith))
+
+  -- "each bidder wins in total at least what its closing bid asked"
+  pub closing-bid : Closed (run (openedBy s x) cs) → ClosingBid (openedBy s x) (termsOf x) cs
+  unfolding opened
+  closing-bid c =
+      let l = open-loaded s x new e r in
+      subst (λ t. ClosingBid (openedBy s x) t cs) (ap (λ a. a .terms) l)
+      (closes-by (openedBy s x) (open-stands s x new e r) (ap isOpen l) cs c)

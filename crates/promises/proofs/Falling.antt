@@ -1,0 +1,92 @@
+-- Prices along a run of calls. Assumes nothing.
+use mathlib.Core.Path.{_≡_, refl, ap}
+use mathlib.Core.Bool.{Bool, true, false}
+use mathlib.Core.Logic.{_⊎_, inl, inr, _↔_}
+use mathlib.Core.List.{List, _++_}
+use Prim.Native.Nat.{ℕ, _≤_, _<_}
+use native.Mathlib.Omega.{arith}
+use borrow.Author.Tests.{ltb-true, ltb-false}
+use lib.ListN.{length}
+use lib.Dec.{ltb}
+use Rattle.rules.specs.declared.Settings.{Settings}
+use Rattle.rules.specs.declared.Auction.{Auction}
+use Rattle.rules.specs.Settings.{termsOf, targetOf, startOf}
+use Rattle.rules.specs.Held.{held}
+use Rattle.rules.specs.Bid.{priceAt, beforeAt}
+use Rattle.rules.specs.Round.{calculated}
+use Rattle.rules.specs.Layout.{loaded}
+use Rattle.rules.specs.Standing.{isOpen}
+use Rattle.rules.specs.Calls.{openNumber, withCard, calculateNumber, calculateCall}
+use Rattle.rules.proofs.Stands.{Stands, Long}
+use Rattle.rules.proofs.Storing.{loaded-long}
+use Rattle.rules.proofs.Bids.{bids-accepted}
+use Rattle.rules.proofs.Prices.{PriceAfter}
+use Rattle.rules.proofs.Round.{round-prices}
+use Rattle.rules.proofs.OneCall.{StandsIn, stood, open-stands, calculate-accepts, calculate-loaded}
+use Rattle.promises.specs.Runs.{Call, after, run, openedBy, Round}
+use Rattle.promises.proofs.Steps.{Step, same, card, round, step, opened-stands, opened-terms, parts-later}
+
+-- ---- one calculation
+
+module _ (s : List ℕ) (S : StandsIn s) (draw : List ℕ) (n : calculateNumber s draw ≡ 0) (p : ℕ) (h : p < loaded s .terms .products) where
+  priced : PriceAfter (loaded s) (loaded (calculateCall s draw .bytes)) p
+  priced =
+      let o = calculate-accepts s S draw n in
+      rw (calculate-loaded s S draw n)
+      (round-prices (loaded s) draw (stood s S) (loaded-long s) (o .0) (o .1) (bids-accepted (loaded s) (stood s S) (o .0)) p h)
+
+  falls-by : isOpen (loaded (calculateCall s draw .bytes)) ≡ true → (t : Bool)
+      → ltb (targetOf (loaded s .terms) p) (held (loaded (calculateCall s draw .bytes) .records) (loaded s .terms .bidders) p) ≡ t
+      → priceAt (loaded (calculateCall s draw .bytes)) p < priceAt (loaded s) p
+      → targetOf (loaded s .terms) p < held (loaded (calculateCall s draw .bytes) .records) (loaded s .terms .bidders) p
+  falls-by o true e l = ltb-true _ _ e
+  falls-by o false e l = absurd (let x : ⊥ = omega (arith, priced .stayed o (ltb-false _ _ e)) in x)
+
+  -- "prices fall and the next round opens": over a calculation that leaves the auction open a price falls, by at least 1, exactly where
+  -- more than the target is held
+  pub price-falls : isOpen (loaded (calculateCall s draw .bytes)) ≡ true
+      → (priceAt (loaded (calculateCall s draw .bytes)) p < priceAt (loaded s) p)
+      ↔ (targetOf (loaded s .terms) p < held (loaded (calculateCall s draw .bytes) .records) (loaded s .terms .bidders) p)
+  price-falls o = (falls-by o _ refl, λ l. priced .fell o l .0)
+
+-- ---- any call
+
+-- "the price q before its latest fall": a price falls, and q is the price that stood; or both stay
+abbrev pub FallsOrStays : Auction → Auction → ℕ → Type 0
+FallsOrStays a z p =
+    ((priceAt z p < priceAt a p) × (beforeAt z p ≡ priceAt a p)) ⊎ ((priceAt z p ≡ priceAt a p) × (beforeAt z p ≡ beforeAt a p))
+
+after-by : (a z : Auction) (p : ℕ) → PriceAfter a z p → (t u : Bool) → isOpen z ≡ t
+    → ltb (targetOf (a .terms) p) (held (z .records) (a .terms .bidders) p) ≡ u → FallsOrStays a z p
+after-by a z p A true true e f = inl (A .fell e (ltb-true _ _ f))
+after-by a z p A true false e f = inr (A .stayed e (ltb-false _ _ f))
+after-by a z p A false u e f = inr (A .ended e)
+
+step-price : {a z : Auction} {rs : List Round} → Stands a → Long a → Step a z rs → (p : ℕ) → p < a .terms .products → FallsOrStays a z p
+unfolding withCard
+step-price S L same p h = inr (refl, refl)
+step-price S L (card b ls) p h = inr (refl, refl)
+step-price {a} S L (round draw o D) p h =
+    after-by a (calculated a draw .auction) p (round-prices a draw S L o D (bids-accepted a S o) p h) _ _ refl refl
+
+pub price-before : (s : List ℕ) → StandsIn s → (c : Call) (p : ℕ) → p < loaded s .terms .products
+    → FallsOrStays (loaded s) (loaded (after s c)) p
+price-before s S c = step-price (stood s S) (loaded-long s) (step s S c)
+
+-- ---- from an opening
+
+module _ (s : List ℕ) (x : Settings) (new : openNumber s x ≡ 0) (e : length (x .eligibility) ≡ 32) (r : length (x .row) ≡ 8)
+    (cs : List Call) where
+  -- no price ever rises
+  pub no-price-rises : (ds : List Call) (p : ℕ) → p < termsOf x .products
+      → priceAt (loaded (run (openedBy s x) (cs ++ ds))) p ≤ priceAt (loaded (run (openedBy s x) cs)) p
+  no-price-rises ds p h =
+      let t = ap (λ t. t .products) (opened-terms s x new e r cs) in
+      parts-later (openedBy s x) (open-stands s x new e r) cs ds .price p (omega arith)
+
+  -- it is never below 1, nor above q, and q never above the starting price
+  pub price-within : (p : ℕ) → p < termsOf x .products
+      → (1 ≤ priceAt (loaded (run (openedBy s x) cs)) p)
+      × (priceAt (loaded (run (openedBy s x) cs)) p ≤ beforeAt (loaded (run (openedBy s x) cs)) p)
+      × (beforeAt (loaded (run (openedBy s x) cs)) p ≤ startOf (termsOf x) p)
+  price-within = rw (opened-terms s x new e r cs) at (stood _ (opened-stands s x new e r cs) .prices)

@@ -1,0 +1,103 @@
+-- "What the contracts have to settle": one outcome for every input, and the useless boxes shut out. Assumes nothing.
+use mathlib.Core.Path.{_≡_, refl, sym, _∙_}
+use mathlib.Core.Bool.{Bool, true, false, cond}
+use mathlib.Core.List.{List}
+use Prim.Native.Nat.{ℕ}
+use native.Mathlib.Omega.{arith}
+use borrow.Author.Tests.{eqb-true}
+use lib.Dec.{eqb}
+use Rattle.rules.specs.declared.Line.{Line}
+use Rattle.rules.specs.declared.Settings.{Settings}
+use Rattle.rules.specs.declared.Auction.{Auction}
+use Rattle.rules.specs.declared.Answer.{Answer}
+use Rattle.rules.specs.declared.Count.{Count}
+use Rattle.rules.specs.declared.Calculation.{Calculation}
+use Rattle.rules.specs.declared.Calculation.the-variants as calculation
+use Rattle.rules.specs.declared.Reported.{Reported}
+use Rattle.rules.specs.declared.Awarded.{Awarded}
+use Rattle.rules.specs.declared.CardRead.{CardRead}
+use Rattle.rules.specs.Answers.{Outcome, outcome}
+use Rattle.rules.specs.Held.{ticked}
+use Rattle.rules.specs.Round.{calculated}
+use Rattle.rules.specs.Layout.{loaded}
+use Rattle.rules.specs.Calls.{openCall, fileCall, countCall, calculateNumber, calculationDone, calculateCall, reportCall, resultCall, returnCall, readCall, writeCall}
+use Rattle.rules.proofs.Storing.{loaded-long}
+use Rattle.rules.proofs.Bids.{bids-accepted}
+use Rattle.rules.specs.Counted.{keptWhereTicked, outbidOf}
+use Rattle.rules.proofs.Round.{round-kept, round-outbid}
+use Rattle.rules.proofs.OneCall.{StandsIn, stood, calculate-accepts, calculate-loaded}
+use Rattle.promises.specs.Demands.{Leaves}
+
+-- ---- one outcome
+
+-- "any two outcomes satisfying a contract coincide"
+leaves-one : {A : Type 0} (d o k : Outcome A) → Leaves d o → Leaves d k → o ≡ k
+leaves-one d o k O K = λ i. record { answer = (O .answer ∙ sym (K .answer)) i; bytes = (O .bytes ∙ sym (K .bytes)) i }
+
+answers-one : {A : Type 0} (d o k : A) → o ≡ d → k ≡ d → o ≡ k
+answers-one d o k p q = p ∙ sym q
+
+-- each call's definition settles its answer and the final bytes it was lent, on refusal too
+pub unique-open : (s : List ℕ) (x : Settings) (o k : Outcome Answer) → Leaves (openCall s x) o → Leaves (openCall s x) k → o ≡ k
+unique-open s x = leaves-one (openCall s x)
+
+pub unique-file : (s c : List ℕ) (o k : Outcome Answer) → Leaves (fileCall s c) o → Leaves (fileCall s c) k → o ≡ k
+unique-file s c = leaves-one (fileCall s c)
+
+pub unique-count : (s : List ℕ) (o k : Count) → o ≡ countCall s → k ≡ countCall s → o ≡ k
+unique-count s = answers-one (countCall s)
+
+pub unique-calculate : (s draw : List ℕ) (o k : Outcome Calculation) → Leaves (calculateCall s draw) o → Leaves (calculateCall s draw) k → o ≡ k
+unique-calculate s draw = leaves-one (calculateCall s draw)
+
+pub unique-report : (s : List ℕ) (b : ℕ) (o k : Reported) → o ≡ reportCall s b → k ≡ reportCall s b → o ≡ k
+unique-report s b = answers-one (reportCall s b)
+
+pub unique-result : (s : List ℕ) (o k : Awarded) → o ≡ resultCall s → k ≡ resultCall s → o ≡ k
+unique-result s = answers-one (resultCall s)
+
+pub unique-return : (s : List ℕ) (o k : Outcome Answer) → Leaves (returnCall s) o → Leaves (returnCall s) k → o ≡ k
+unique-return s = leaves-one (returnCall s)
+
+pub unique-read : (c : List ℕ) (n : ℕ) (o k : CardRead) → o ≡ readCall c n → k ≡ readCall c n → o ≡ k
+unique-read c n = answers-one (readCall c n)
+
+pub unique-write : (room : List ℕ) (n b r : ℕ) (ls : List Line) (o k : Outcome Answer)
+    → Leaves (writeCall room n b r ls) o → Leaves (writeCall room n b r ls) k → o ≡ k
+unique-write room n b r ls = leaves-one (writeCall room n b r ls)
+
+-- ---- the two counts
+
+module _ (s : List ℕ) (S : StandsIn s) (draw : List ℕ) (k o : ℕ) (d : calculateCall s draw .answer ≡ calculation.Done k o) where
+  abbrev a : Auction
+  a = loaded s
+
+  abbrev z : Auction
+  z = loaded (calculateCall s draw .bytes)
+
+  accepted-by : (t : Bool) → eqb (calculateNumber s draw) 0 ≡ t
+      → cond t (calculationDone (calculated a draw)) (outcome (calculation.Refused (calculateNumber s draw)) s) .answer ≡ calculation.Done k o
+      → (calculateNumber s draw ≡ 0) × (calculated a draw .kept ≡ k) × (calculated a draw .outbid ≡ o)
+  accepted-by true e f = (eqb-true _ 0 e, cc, cc)
+  accepted-by false e f = let x : _≡_ {A = ℕ} 0 1 = cc in absurd (let y : ⊥ = omega arith in y)
+
+  accepted : (calculateNumber s draw ≡ 0) × (calculated a draw .kept ≡ k) × (calculated a draw .outbid ≡ o)
+  unfolding calculateCall
+  accepted = accepted-by (eqb (calculateNumber s draw) 0) refl d
+
+  -- "The first equals the kept tranches now on products that had ticked."
+  pub kept-count : k ≡ keptWhereTicked a z
+  kept-count =
+      let A = accepted in
+      let c = calculate-accepts s S draw (A .0) in
+      rw (calculate-loaded s S draw (A .0))
+      (sym (A .1) ∙ round-kept a draw (stood s S) (loaded-long s) (c .0) (c .1) (bids-accepted a (stood s S) (c .0)))
+
+  -- "The second equals the kept tranches that stood before on the other products, less those deemed bid in step 3, less those still
+  -- kept there."
+  pub outbid-count : o ≡ outbidOf a draw z
+  outbid-count =
+      let A = accepted in
+      let c = calculate-accepts s S draw (A .0) in
+      rw (calculate-loaded s S draw (A .0))
+      (sym (A .2) ∙ round-outbid a draw (stood s S) (loaded-long s) (c .0) (c .1) (bids-accepted a (stood s S) (c .0)))

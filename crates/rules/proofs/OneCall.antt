@@ -1,0 +1,292 @@
+-- One call on lent bytes, from any state: what it leaves stands, and what it refuses is left as it was. Assumes nothing.
+use mathlib.Core.Path.{_≡_, refl, sym, _∙_, ap, subst}
+use mathlib.Core.Bool.{Bool, true, false, cond}
+use mathlib.Core.List.{List}
+use Prim.Native.Nat.{ℕ, zero, suc, _<_}
+use native.Mathlib.Omega.{arith}
+use borrow.Author.Tests.{eqb-true, eq-eqb, ne-eqb}
+use lib.ListN.{length, getD, replicate}
+use lib.Dec.{eqb}
+use Rattle.rules.specs.declared.Line.{Line}
+use Rattle.rules.specs.declared.Settings.{Settings}
+use Rattle.rules.specs.declared.Auction.{Auction}
+use Rattle.rules.specs.declared.Outbid.{Outbid}
+use Rattle.rules.specs.declared.Answer.the-variants as answer
+use Rattle.rules.specs.declared.Calculation.{Calculation}
+use Rattle.rules.specs.declared.Calculation.the-variants as calculation
+use Rattle.rules.specs.Answers.{Outcome, outcome, unlessRefused, closed, stopped}
+use Rattle.rules.specs.Settings.{settingsFit, termsOf}
+use Rattle.rules.specs.Held.{excess}
+use Rattle.rules.specs.Round.{drawFits, afterStep2, afterStep4, atRest, onward, stops, settled, calculated}
+use Rattle.rules.specs.Layout.{stateLength, stored, loaded, allZero}
+use Rattle.rules.specs.Standing.{isOpen, stands}
+use Rattle.rules.specs.Card.{readCard, cardOf, writeNumber, writeCard}
+use Rattle.rules.specs.Bid.{hasFiled, slotOf}
+use Rattle.rules.specs.Calls.{opened, openNumber, openCall, ofState, cardNumber, fileNumber, bidderOn, afterCard, fileCall, countNumber, drawNumber, calculateNumber, calculationDone, calculateCall, reportNumber, resultNumber, returnNumber, returnCall, writeCall}
+use Rattle.rules.proofs.Lists.{clash, all-give, all-take}
+use Rattle.rules.proofs.Stands.{Stands}
+use Rattle.rules.proofs.Standing.{stands-take, stands-give}
+use Rattle.rules.proofs.Bids.{bids-accepted}
+use Rattle.rules.proofs.Opening.{blank}
+use Rattle.rules.proofs.Filing.{slot-filed, slot-other, bit-filed, bit-other}
+use Rattle.rules.proofs.Storing.{stored-long, loaded-long, loaded-bits, stored-bytes}
+use Rattle.rules.proofs.Fitting.{phase-small, standing-loads}
+use Rattle.rules.proofs.Calling.{granted, opens, opens-loads, read-long, file-take, files, files-loads}
+use Rattle.rules.proofs.Round.{round-stands, round-long}
+
+-- bytes that are a standing state
+pub record StandsIn (s : List ℕ) : Type 0 where
+  pub long : length s ≡ 3333
+  pub standing : stands (loaded s) ≡ true
+  pub bits : loaded s .filed < 4294967296
+
+-- "Standing means", of the auction that the bytes hold
+pub stood : (s : List ℕ) → StandsIn s → Stands (loaded s)
+stood s S = stands-take (loaded s) (S .standing)
+
+-- a standing auction that is stored and read back
+stored-stands : (a : Auction) → Stands a → loaded (stored a) ≡ a → StandsIn (stored a)
+stored-stands a S e =
+    record { long = stored-long a; standing = rw e (stands-give a S); bits = loaded-bits (stored a) (stored-bytes a) }
+
+-- ---- the number of a call lent a state
+
+zero-by : (s : List ℕ) → length s ≡ 3333 → (t : Bool) → allZero s ≡ t → Stands (loaded s) → t ≡ false
+unfolding loaded
+zero-by s l true e S =
+    let x : loaded s .phase ≡ 0 = eqb-true (getD s 0 0) 0 (all-take (λ i. eqb (getD s i 0) 0) (length s) e 0 (omega arith)) in
+    absurd (let z : ⊥ = omega (arith, phase-small (loaded s) S) in z)
+zero-by s l false e S = refl
+
+-- a standing state is not taken for an issued one
+pub not-issued : (s : List ℕ) → StandsIn s → allZero s ≡ false
+not-issued s S = zero-by s (S .long) (allZero s) refl (stood s S)
+
+-- of a standing state a call says what the auction says
+pub of-standing : (s : List ℕ) → StandsIn s → (n : ℕ) (says : Auction → ℕ) → ofState s n says ≡ says (loaded s)
+of-standing s S n says = rw (eq-eqb (length s) 3333 (S .long), not-issued s S, S .standing)
+
+-- ---- issued
+
+module _ (s : List ℕ) (l : length s ≡ 3333) (z : allZero s ≡ true) where
+  issued-by : (t : Bool) → stands (loaded s) ≡ t → t ≡ false
+  issued-by true e = clash z (zero-by s l (allZero s) refl (stands-take (loaded s) e))
+  issued-by false e = refl
+
+  -- "all zero as issued": it does not stand, bids are not open, and the auction is not closed
+  pub issued-not-standing : (stands (loaded s) ≡ false) × ((c : List ℕ) → fileNumber s c ≡ 3) × (countNumber s ≡ 3)
+      × ((draw : List ℕ) → calculateNumber s draw ≡ 3) × ((b : ℕ) → reportNumber s b ≡ 3) × (resultNumber s ≡ 16)
+  issued-not-standing =
+      let e = eq-eqb (length s) 3333 l in
+      (issued-by (stands (loaded s)) refl, λ c. rw (e, z), rw (e, z), λ draw. rw (e, z), λ b. rw (e, z), rw (e, z))
+
+-- ---- astray
+
+-- a state of the wrong length is answered 1 by every call
+pub wrong-length : (s : List ℕ) → (length s ≡ 3333 → ⊥) → ((x : Settings) → openNumber s x ≡ 1) × ((c : List ℕ) → fileNumber s c ≡ 1)
+    × (countNumber s ≡ 1) × ((draw : List ℕ) → calculateNumber s draw ≡ 1) × ((b : ℕ) → reportNumber s b ≡ 1) × (resultNumber s ≡ 1)
+    × (returnNumber s ≡ 1)
+wrong-length s l =
+    let e = ne-eqb (length s) 3333 l in
+    (λ x. rw e, λ c. rw e, rw e, λ draw. rw e, λ b. rw e, rw e, rw e)
+
+-- "state neither issued nor standing": 2, to an opening 17, and to a return nothing
+pub neither : (s : List ℕ) → length s ≡ 3333 → allZero s ≡ false → stands (loaded s) ≡ false
+    → ((x : Settings) → openNumber s x ≡ 17) × ((c : List ℕ) → fileNumber s c ≡ 2) × (countNumber s ≡ 2)
+    × ((draw : List ℕ) → calculateNumber s draw ≡ 2) × ((b : ℕ) → reportNumber s b ≡ 2) × (resultNumber s ≡ 2) × (returnNumber s ≡ 0)
+neither s l z n =
+    let e = eq-eqb (length s) 3333 l in
+    (λ x. rw (e, z), λ c. rw (e, z, n), rw (e, z, n), λ draw. rw (e, z, n), λ b. rw (e, z, n), rw (e, z, n), rw e)
+
+-- ---- refused
+
+-- "Every refusal returns its number only and writes nothing."
+unless-same : (k n : ℕ) (new old : List ℕ) → unlessRefused k new old .answer ≡ answer.Refused n → unlessRefused k new old .bytes ≡ old
+unless-same zero n new old e = let z : _≡_ {A = ℕ} 0 1 = cc in absurd (let x : ⊥ = omega arith in x)
+unless-same (suc k) n new old e = rw (ne-eqb (suc k) 0 (λ z. omega arith))
+
+calculate-same : (s : List ℕ) (n : ℕ) (done : Outcome Calculation) (k : ℕ) → (j o : ℕ) × (done .answer ≡ calculation.Done j o) → (t : Bool)
+    → cond t done (outcome (calculation.Refused k) s) .answer ≡ calculation.Refused n → cond t done (outcome (calculation.Refused k) s) .bytes ≡ s
+calculate-same s n done k d true e = let f = d .2 in let z : _≡_ {A = ℕ} 0 1 = cc in absurd (let x : ⊥ = omega arith in x)
+calculate-same s n done k d false e = refl
+
+-- each refusal "changes no lent byte"
+pub record RefusedSame (s : List ℕ) (n : ℕ) : Type 0 where
+  pub opening : (x : Settings) → openCall s x .answer ≡ answer.Refused n → openCall s x .bytes ≡ s
+  pub filing : (c : List ℕ) → fileCall s c .answer ≡ answer.Refused n → fileCall s c .bytes ≡ s
+  pub calculating : (draw : List ℕ) → calculateCall s draw .answer ≡ calculation.Refused n → calculateCall s draw .bytes ≡ s
+  pub returning : returnCall s .answer ≡ answer.Refused n → returnCall s .bytes ≡ s
+  pub writing : (m b r : ℕ) (ls : List Line) → writeCall s m b r ls .answer ≡ answer.Refused n → writeCall s m b r ls .bytes ≡ s
+
+pub refused-same : (s : List ℕ) (n : ℕ) → RefusedSame s n
+unfolding openCall fileCall calculateCall returnCall writeCard
+refused-same s n = record {
+  opening = λ x. unless-same (openNumber s x) n (stored (opened (termsOf x))) s;
+  filing = λ c. unless-same (fileNumber s c) n (stored (afterCard c (loaded s))) s;
+  calculating = λ draw. calculate-same s n _ _ (_, _, refl) (eqb (calculateNumber s draw) 0);
+  returning = unless-same (returnNumber s) n (replicate stateLength 0) s;
+  writing = λ m b r ls. unless-same (writeNumber (length s) m b r ls) n (cardOf m b r ls) s;
+}
+
+-- the same by the number: where it is not 0 the bytes stay
+pub open-refused : (s : List ℕ) (x : Settings) → (openNumber s x ≡ 0 → ⊥) → openCall s x .bytes ≡ s
+unfolding openCall
+open-refused s x h = rw (ne-eqb (openNumber s x) 0 h)
+
+pub file-refused : (s c : List ℕ) → (fileNumber s c ≡ 0 → ⊥) → fileCall s c .bytes ≡ s
+unfolding fileCall
+file-refused s c h = rw (ne-eqb (fileNumber s c) 0 h)
+
+pub calculate-refused : (s draw : List ℕ) → (calculateNumber s draw ≡ 0 → ⊥) → calculateCall s draw .bytes ≡ s
+unfolding calculateCall
+calculate-refused s draw h = rw (ne-eqb (calculateNumber s draw) 0 h)
+
+-- ---- return
+
+-- nothing but zeros
+pub zeros : (n : ℕ) → allZero (replicate n 0) ≡ true
+zeros n = all-give _ (length (replicate {A = ℕ} n 0)) (λ i l. eq-eqb _ 0 (blank 0 n i))
+
+returned : (n : ℕ) (s z : List ℕ) → n ≡ 0 → (unlessRefused n z s .answer ≡ answer.Done) × (unlessRefused n z s .bytes ≡ z)
+returned n s z e = (rw e, rw e)
+
+-- "A return accepts any state of the right length and leaves it all zero, as first issued."
+pub return-issued : (s : List ℕ) → length s ≡ 3333
+    → (returnCall s .answer ≡ answer.Done) × (returnCall s .bytes ≡ replicate stateLength 0) × (allZero (returnCall s .bytes) ≡ true)
+unfolding returnCall
+return-issued s l =
+    let r = returned (returnNumber s) s (replicate stateLength 0) (rw (eq-eqb (length s) 3333 l)) in
+    (r .0, r .1, subst (λ b. allZero b ≡ true) (sym (r .1)) (zeros stateLength))
+
+-- the owner's case: nothing of one hirer's auction reaches the next, whatever the state that came back, for an opening of it gives the
+-- answer and the bytes that it gives of a new box
+pub return-open : (s : List ℕ) (x : Settings) → length s ≡ 3333 → openCall (returnCall s .bytes) x ≡ openCall (replicate stateLength 0) x
+return-open s x l = ap (λ b. openCall b x) (return-issued s l .1)
+
+-- ---- open
+
+module _ (s : List ℕ) (x : Settings) (new : openNumber s x ≡ 0) (e : length (x .eligibility) ≡ 32) (r : length (x .row) ≡ 8) where
+  open-fits : settingsFit x ≡ true
+  open-fits =
+      let l = granted (eqb (length s) stateLength) _ 1 (omega arith) new in
+      let z = granted (allZero s) _ 17 (omega arith) (l .1) in
+      granted (settingsFit x) _ 15 (omega arith) (z .1) .0
+
+  open-bytes : openCall s x .bytes ≡ stored (opened (termsOf x))
+  unfolding openCall
+  open-bytes = rw new
+
+  -- an opening accepted leaves the auction of its settings,
+  pub open-loaded : loaded (openCall s x .bytes) ≡ opened (termsOf x)
+  open-loaded = rw open-bytes (opens-loads x open-fits e r)
+
+  -- and it stands
+  pub open-stands : StandsIn (openCall s x .bytes)
+  open-stands = rw open-bytes (stored-stands (opened (termsOf x)) (opens x open-fits) (opens-loads x open-fits e r))
+
+-- a standing state is not opened again: 17, and its bytes stay
+pub open-standing : (s : List ℕ) (x : Settings) → StandsIn s → (openCall s x .answer ≡ answer.Refused 17) × (openCall s x .bytes ≡ s)
+unfolding openCall
+open-standing s x S =
+    let n : openNumber s x ≡ 17 = rw (eq-eqb (length s) 3333 (S .long), not-issued s S) in
+    (rw n, rw n)
+
+-- ---- file
+
+-- from a to z bidder b has filed the lines ls, and no other bidder's slot has changed
+pub record FiledOnly (a z : Auction) (b : ℕ) (ls : List Line) : Type 0 where
+  pub filed : hasFiled z b ≡ true
+  pub lines : slotOf z b ≡ ls
+  pub others : (o : ℕ) → (o ≡ b → ⊥) → (hasFiled z o ≡ hasFiled a o) × (slotOf z o ≡ slotOf a o)
+
+module _ (s : List ℕ) (S : StandsIn s) (c : List ℕ) where
+  file-accepts : fileNumber s c ≡ 0 → cardNumber c (loaded s) ≡ 0
+  file-accepts e = sym (of-standing s S 3 (cardNumber c)) ∙ e
+
+  file-loads : cardNumber c (loaded s) ≡ 0 → loaded (stored (afterCard c (loaded s))) ≡ afterCard c (loaded s)
+  file-loads e = files-loads (loaded s) (stood s S) (loaded-long s) c e (S .bits)
+
+  -- a card accepted: its bidder's slot holds it
+  pub file-loaded : fileNumber s c ≡ 0 → loaded (fileCall s c .bytes) ≡ afterCard c (loaded s)
+  unfolding fileCall
+  file-loaded e = rw e (file-loads (file-accepts e))
+
+  -- "The last valid card in a round stands": its bidder has filed it, and the other slots are as they were
+  pub file-holds : fileNumber s c ≡ 0 → FiledOnly (loaded s) (loaded (fileCall s c .bytes))
+      (bidderOn (readCard c (loaded s .terms .products) .card)) (readCard c (loaded s .terms .products) .lines)
+  file-holds e =
+      let a = loaded s in
+      let b = bidderOn (readCard c (a .terms .products) .card) in
+      let ls = readCard c (a .terms .products) .lines in
+      let h : b < 32 = omega (arith, file-take a c (file-accepts e) .1, stood s S .limits .bidders) in
+      let n = loaded-long s .bids in
+      let l = read-long c (a .terms .products) in
+      rw (file-loaded e) (record {
+        filed = bit-filed a b ls;
+        lines = slot-filed a b ls h n l;
+        others = λ o d. (bit-other a b ls o d, slot-other a b ls h n l o d);
+      })
+
+  file-by : (t : Bool) → eqb (fileNumber s c) 0 ≡ t → StandsIn (cond t (stored (afterCard c (loaded s))) s)
+  file-by true e =
+      let k = file-accepts (eqb-true (fileNumber s c) 0 e) in
+      stored-stands (afterCard c (loaded s)) (files (loaded s) (stood s S) (loaded-long s) c k) (file-loads k)
+  file-by false e = S
+
+  -- a card filed or refused leaves a standing state
+  pub file-stands : StandsIn (fileCall s c .bytes)
+  unfolding fileCall
+  file-stands = file-by (eqb (fileNumber s c) 0) refl
+
+-- ---- calculate
+
+no-cards : (a : Auction) (o : Outbid) (t u : Bool)
+    → cond t (atRest closed a o) (cond u (atRest stopped a o) (onward (atRest closed a o))) .filed ≡ 0
+no-cards a o true u = refl
+no-cards a o false true = refl
+no-cards a o false false = refl
+
+-- no cards are left of a round
+settled-filed : (a : Auction) (o : Outbid) → settled a o .filed ≡ 0
+settled-filed a o = no-cards a o (eqb (excess (atRest closed a o)) 0) (stops (atRest closed a o))
+
+round-filed : (a : Auction) (draw : List ℕ) → calculated a draw .auction .filed ≡ 0
+unfolding calculated
+round-filed a draw = settled-filed a (afterStep4 a draw (afterStep2 a draw .places))
+
+module _ (s : List ℕ) (S : StandsIn s) (draw : List ℕ) where
+  -- a calculation accepted: bids are open, and the draw is in order
+  pub calculate-accepts : calculateNumber s draw ≡ 0 → (isOpen (loaded s) ≡ true) × (drawFits (loaded s .terms .bidders) draw ≡ true)
+  calculate-accepts e =
+      let o = granted (isOpen (loaded s)) _ 3 (omega arith) (sym (of-standing s S 3 (drawNumber draw)) ∙ e) in
+      (o .0, granted (drawFits (loaded s .terms .bidders) draw) 0 14 (omega arith) (o .1) .0)
+
+  module _ (e : calculateNumber s draw ≡ 0) where
+    round-stood : Stands (calculated (loaded s) draw .auction)
+    round-stood =
+        let o = calculate-accepts e in
+        round-stands (loaded s) draw (stood s S) (loaded-long s) (o .0) (o .1) (bids-accepted (loaded s) (stood s S) (o .0))
+
+    round-loads : loaded (stored (calculated (loaded s) draw .auction)) ≡ calculated (loaded s) draw .auction
+    round-loads =
+        let o = calculate-accepts e in
+        standing-loads (calculated (loaded s) draw .auction) round-stood
+        (round-long (loaded s) draw (stood s S) (loaded-long s) (o .0) (o .1) (bids-accepted (loaded s) (stood s S) (o .0)))
+        (omega (arith, round-filed (loaded s) draw))
+
+    -- a calculation accepted: the bytes hold the auction that the round leaves
+    pub calculate-loaded : loaded (calculateCall s draw .bytes) ≡ calculated (loaded s) draw .auction
+    unfolding calculateCall
+    calculate-loaded = rw e round-loads
+
+  calculate-by : (t : Bool) → eqb (calculateNumber s draw) 0 ≡ t
+      → StandsIn (cond t (calculationDone (calculated (loaded s) draw)) (outcome (calculation.Refused (calculateNumber s draw)) s) .bytes)
+  calculate-by true e =
+      let k = eqb-true (calculateNumber s draw) 0 e in
+      stored-stands (calculated (loaded s) draw .auction) (round-stood k) (round-loads k)
+  calculate-by false e = S
+
+  -- a round calculated or refused leaves a standing state
+  pub calculate-stands : StandsIn (calculateCall s draw .bytes)
+  unfolding calculateCall
+  calculate-stands = calculate-by (eqb (calculateNumber s draw) 0) refl
