@@ -7,7 +7,7 @@ ghost use lib.ListN.{length, replicate};
 ghost use lib.Dec.{ltb};
 ghost use Rattle.rules.specs.Bits.{bitAt, fieldAt, setBit, putField};
 ghost use Rattle.rules.specs.Count.{allUpTo};
-ghost use Rattle.rules.specs.Card.{noLine, lineBit, cardLength, lineAt, readLines, readRefused, readCard, putLine, putLines, lineFits, lineZero, writeCard};
+ghost use Rattle.rules.specs.Card.{lineBit, cardLength, lineAt, readLines, readRefused, readCard, putLine, putLines, lineFits, lineZero, writeCard};
 ghost use Rattle.card.specs.Parts.{Inside, fieldIn, lineWritable};
 use rules::Answer;
 use rules::Card;
@@ -27,6 +27,7 @@ fn line_bit(product: usize) -> usize
     17 + 36 * product
 }
 
+// "Zero bits fill the last byte": whole bytes for so many products.
 fn card_length(products: usize) -> usize
     requires { ⌜ products ≤ 8 ⌝ }
     ensures { λ r. ⌜ r ≡ cardLength products ⌝ }
@@ -43,7 +44,8 @@ fn bit_at(card: &[u8], place: usize) -> u8
     (card[place >> 3] >> (7 - (place & 7))) & 1
 }
 
-// The field of so many bits from a place on, or that it ends past the card.
+// The field of so many bits from a place on, or that it ends past the card. No card is longer than 39 bytes and no field
+// wider than 17 bits: whatever asks for more is past the card too, so that any place and width may be asked for.
 fn field(card: &[u8], at: usize, width: usize) -> Field
     ensures { λ r. ⌜ r ≡ fieldIn (now (card .entry)) at width ⌝ }
 {
@@ -70,7 +72,7 @@ fn field(card: &[u8], at: usize, width: usize) -> Field
     Field::Value(value)
 }
 
-// The value of a field that lies inside the card.
+// The value of a field that lies inside the card, as each does once the card's length has been tested.
 fn value(card: &[u8], at: usize, width: usize) -> u32
     requires { ⌜ Inside (now card) at width ⌝ }
     ensures { λ r. ⌜ (r ≡ fieldAt (now (card .entry)) at width) × (r < 2 ^ width) ⌝ }
@@ -82,19 +84,6 @@ fn value(card: &[u8], at: usize, width: usize) -> u32
 }
 
 // ---- reading
-
-fn no_line() -> Line
-    ensures { λ r. ⌜ r ≡ noLine ⌝ }
-{
-    Line {
-        tranches: Tranches(0),
-        withdrawn: Lot {
-            count: Tranches(0),
-            exit: 0,
-        },
-        priority: 0,
-    }
-}
 
 fn line_at(card: &[u8], at: usize) -> Line
     requires { ⌜ (at + 36 ≤ 8 * length (now card)) × (length (now card) ≤ 39) ⌝ }
@@ -118,7 +107,7 @@ fn lines_of(card: &[u8], products: usize) -> [Line; 8]
     requires { ⌜ (products ≤ 8) × (length (now card) ≡ cardLength products) ⌝ }
     ensures { λ r. ⌜ r ≡ readLines (now (card .entry)) products ⌝ }
 {
-    let none = no_line();
+    let none = Line::none();
     let mut lines = [none; 8];
     let mut i: usize = 0;
     while i < products {
@@ -133,14 +122,15 @@ fn lines_of(card: &[u8], products: usize) -> [Line; 8]
 fn refused(number: u8) -> CardRead
     ensures { λ r. ⌜ r ≡ readRefused number ⌝ }
 {
-    let none = no_line();
+    let none = Line::none();
     CardRead {
         card: Card::Refused(number),
         lines: [none; 8],
     }
 }
 
-// Reads a card to a bid, for a stated product count.
+// Reads a card to a bid, for a stated product count. Refused are 29 a count not 1 to 8, 4 a wrong length, and 5 filling
+// bits that are not zero; no field of a card of the right length is past it.
 pub fn read(card: &[u8], products: usize) -> CardRead
     ensures { λ r. ⌜ r ≡ readCard (now (card .entry)) products ⌝ }
 {
@@ -239,40 +229,21 @@ fn clear(room: &mut [u8])
     }
 }
 
+// Two tests as one value.
 fn both(a: bool, b: bool) -> bool
     ensures { λ r. ⌜ r ≡ (a && b) ⌝ }
 {
     if a { b } else { false }
 }
 
-// Each field of the line is below 2 to its bits.
-fn line_fits(line: Line) -> bool
-    ensures { λ r. ⌜ r ≡ lineFits line ⌝ }
-{
-    let tranches = line.tranches.0 < 256;
-    let count = line.withdrawn.count.0 < 256;
-    let exit = line.withdrawn.exit < 131072;
-    let priority = line.priority < 8;
-    both(tranches, both(count, both(exit, priority)))
-}
-
-fn line_zero(line: Line) -> bool
-    ensures { λ r. ⌜ r ≡ lineZero line ⌝ }
-{
-    let tranches = line.tranches.0 == 0;
-    let count = line.withdrawn.count.0 == 0;
-    let exit = line.withdrawn.exit == 0;
-    let priority = line.priority == 0;
-    both(tranches, both(count, both(exit, priority)))
-}
-
+// A line past the count is all zero.
 fn line_writable(products: usize, product: usize, line: Line) -> bool
     ensures { λ r. ⌜ r ≡ cond (ltb product products) (lineFits line) (lineZero line) ⌝ }
 {
     if product < products {
-        line_fits(line)
+        line.fits()
     } else {
-        line_zero(line)
+        line.is_zero()
     }
 }
 
@@ -290,7 +261,8 @@ fn lines_writable(products: usize, lines: [Line; 8]) -> bool
     all
 }
 
-// Writes a bid as a card, for a stated product count, into room of the card's length.
+// Writes a bid as a card, for a stated product count. Refused are 29 a count not 1 to 8, 4 room of a wrong length, and 30 a
+// field too large for its bits, or not 0 past the count; nothing is stored before the last of these tests has passed.
 pub fn write(room: &mut [u8], products: usize, bidder: u8, round: u16, lines: [Line; 8]) -> Answer
     ensures { λ r. ⌜ (r ≡ writeCard (now (room .entry)) products bidder round lines .answer) × (now (room .exit) ≡ writeCard (now (room .entry)) products bidder round lines .bytes) ⌝ }
 {

@@ -1,3 +1,4 @@
+-- `bit_at` meets its contract: a place's byte is place / 8, and its bit in it, from the least, 7 - place % 8. Assumes nothing.
 use native.Mathlib.Omega.{arith}
 use lib.Bits.{and-mask, and-le-r}
 use borrow.Author.Needs.{needs}

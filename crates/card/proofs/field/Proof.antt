@@ -1,3 +1,4 @@
+-- `field` meets its contract. Tests failed put the field past the card; past them, the value is that of the bits passed. Assumes nothing.
 use mathlib.Core.Path.{_≡_}
 use Prim.Native.Nat.{_+_, _-_, _*_, _≤_}
 use native.Mathlib.Omega.{arith}

@@ -1,3 +1,4 @@
+-- `line_at` meets its contract, field by field. Assumes nothing.
 use borrow.Author.Needs.{needs}
 use Rattle.rules.specs.Card.{line}
 use Rattle.card.proofs.line_at.Statement.{statement}

@@ -1,3 +1,4 @@
+-- `put_bit` meets its contract: the byte is made anew of the bits above, the bit, and the bits below. Assumes nothing.
 use Prim.Native.Nat.{ℕ, _-_, _/_, _<_}
 use native.Mathlib.Omega.{arith}
 use lib.Bits.{bitAnd, and-mask, and-le-r}

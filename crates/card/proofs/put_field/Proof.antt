@@ -1,3 +1,4 @@
+-- `put_field` meets its contract: of the value's bits, from the top, those passed are put. Assumes nothing.
 use mathlib.Core.Path.{_≡_, _∙_}
 use Prim.Native.Nat.{_-_, _/_, _^_, _≤_}
 use native.Mathlib.Omega.{arith}

@@ -1,3 +1,4 @@
+-- `put_line` meets its contract, by those of its four calls. Assumes nothing.
 use borrow.Author.Needs.{needs}
 use Rattle.card.proofs.put_line.Statement.{statement}
 use Rattle.card.proofs.put_line.Tie as tie

@@ -1,3 +1,4 @@
+-- `read` meets its contract. Each refusal's tests are those of the definition; past the length test no field is past the card. Assumes nothing.
 use mathlib.Core.Path.{sym, _∙_}
 use native.Mathlib.Omega.{arith}
 use borrow.Author.Needs.{needs}

@@ -1,3 +1,4 @@
+-- `value` meets its contract: a field inside the card is not past it. Assumes nothing.
 use borrow.Author.Needs.{needs}
 use Rattle.card.proofs.FieldLaws.{never-past, got-value, value-small}
 use Rattle.card.proofs.value.Statement.{statement}
