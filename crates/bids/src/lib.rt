@@ -1,45 +1,18 @@
 // "Rules of a bid" of document 01: a bid is judged by numbers 8 to 13, each over all products before the next.
 // Every sum is of u16 fields, at most 8 of them, and is taken in a u32 whatever the state and the card hold.
 ghost use mathlib.Core.Path.{_≡_};
-ghost use Prim.Native.Nat.{ℕ, _+_, _-_, _≤_, _<_};
+ghost use Prim.Native.Nat.{ℕ, _+_, _≤_, _<_};
 ghost use lib.Dec.{eqb};
 ghost use Rattle.rules.specs.Count.{sumUpTo, allUpTo};
 ghost use Rattle.rules.specs.Settings.{capOf};
 ghost use Rattle.rules.specs.Held.{goingIn, ticked, freeOf};
-ghost use Rattle.rules.specs.Bid.{bidIn, withdrawnIn, reduction, increase, oneIf, reductions, increases, switches, withdrawals, overCap, wrongReduction, overEligible, wrongWithdrawn, wrongExit, increased, numbered, wellNumbered, wrongPriority, recordOf, priceAt, beforeAt, onProduct, judged, hasFiled, slotOf, defaultLine, bidOn};
+ghost use Rattle.rules.specs.Bid.{bidIn, withdrawnIn, oneIf, reductions, increases, switches, withdrawals, overCap, wrongReduction, overEligible, wrongWithdrawn, wrongExit, increased, numbered, wellNumbered, wrongPriority, recordOf, priceAt, beforeAt, onProduct, judged, hasFiled, slotOf, bidOn};
 ghost use Rattle.held.specs.Counts.{Counts};
-ghost use Rattle.bids.specs.Lines.{withinCap, mayReduce, mayWithdraw, exitFits, isIncreased, hasNumber, mayNumber};
+ghost use Rattle.bidline.specs.Lines.{mayWithdraw, mayNumber};
 use rules::Auction;
 use rules::Line;
-use rules::Lot;
-use rules::Record;
-use rules::Tranches;
 
 // ---- R, I, s, w
-
-// a less b, and 0 where b is more.
-fn less(a: u32, b: u32) -> u32
-    ensures { λ r. ⌜ (r ≡ a - b) × (r ≤ a) ⌝ }
-{
-    if a <= b {
-        return 0;
-    }
-    a - b
-}
-
-// "Reduction R = g - b if positive, else 0."
-pub fn reduction(r: Record, l: Line) -> u32
-    ensures { λ x. ⌜ (x ≡ reduction r l) × (x ≤ 65535) ⌝ }
-{
-    less(r.going.0 as u32, l.tranches.0 as u32)
-}
-
-// "Increase I = b - g if positive, else 0."
-pub fn increase(r: Record, l: Line) -> u32
-    ensures { λ x. ⌜ (x ≡ increase r l) × (x ≤ 65535) ⌝ }
-{
-    less(l.tranches.0 as u32, r.going.0 as u32)
-}
 
 fn reductions(a: Auction, b: usize, lines: [Line; 8]) -> u32
     requires { ⌜ Counts a × (b < 32) ⌝ }
@@ -52,7 +25,7 @@ fn reductions(a: Auction, b: usize, lines: [Line; 8]) -> u32
         let k = b * 8 + p;
         let r = a.records[k];
         let l = lines[p];
-        sum += reduction(r, l);
+        sum += bidline::reduction(r, l);
         p += 1;
     }
     sum
@@ -69,7 +42,7 @@ fn increases(a: Auction, b: usize, lines: [Line; 8]) -> u32
         let k = b * 8 + p;
         let r = a.records[k];
         let l = lines[p];
-        sum += increase(r, l);
+        sum += bidline::increase(r, l);
         p += 1;
     }
     sum
@@ -88,7 +61,7 @@ fn switches(a: Auction, b: usize, lines: [Line; 8]) -> u32
     requires { ⌜ Counts a × (b < 32) ⌝ }
     ensures { λ x. ⌜ (x ≡ switches (a .terms .products) (recordOf a b) (onProduct lines) (freeOf a b)) × (x ≤ 524280) ⌝ }
 {
-    less(increases(a, b, lines), free(a, b))
+    bidline::less(increases(a, b, lines), free(a, b))
 }
 
 // "Withdrawals over all products total w = sum of R - s."
@@ -96,16 +69,10 @@ fn withdrawals(a: Auction, b: usize, lines: [Line; 8]) -> u32
     requires { ⌜ Counts a × (b < 32) ⌝ }
     ensures { λ x. ⌜ (x ≡ withdrawals (a .terms .products) (recordOf a b) (onProduct lines) (freeOf a b)) × (x ≤ 524280) ⌝ }
 {
-    less(reductions(a, b, lines), switches(a, b, lines))
+    bidline::less(reductions(a, b, lines), switches(a, b, lines))
 }
 
 // ---- 8: "some b + d + r above the product cap"
-
-fn within_cap(r: Record, l: Line, cap: Tranches) -> bool
-    ensures { λ x. ⌜ x ≡ withinCap r l (cap .0) ⌝ }
-{
-    l.tranches.0 as u32 + r.denied.0 as u32 + r.retained.count.0 as u32 <= cap.0 as u32
-}
 
 fn over_cap(a: Auction, b: usize, lines: [Line; 8]) -> bool
     requires { ⌜ Counts a × (b < 32) ⌝ }
@@ -119,7 +86,7 @@ fn over_cap(a: Auction, b: usize, lines: [Line; 8]) -> bool
         let r = a.records[k];
         let l = lines[p];
         let item = t.item[p];
-        if !within_cap(r, l, item.cap) {
+        if !bidline::within_cap(r, l, item.cap) {
             return true;
         }
         p += 1;
@@ -128,15 +95,6 @@ fn over_cap(a: Auction, b: usize, lines: [Line; 8]) -> bool
 }
 
 // ---- 9: "a reduction on a product that didn't tick"
-
-fn may_reduce(tick: bool, r: Record, l: Line) -> bool
-    ensures { λ x. ⌜ x ≡ mayReduce tick r l ⌝ }
-{
-    if tick {
-        return true;
-    }
-    reduction(r, l) == 0
-}
 
 fn wrong_reduction(a: Auction, b: usize, lines: [Line; 8]) -> bool
     requires { ⌜ Counts a × (b < 32) ⌝ }
@@ -149,7 +107,7 @@ fn wrong_reduction(a: Auction, b: usize, lines: [Line; 8]) -> bool
         let r = a.records[k];
         let l = lines[p];
         let tick = held::ticked(a, p);
-        if !may_reduce(tick, r, l) {
+        if !bidline::may_reduce(tick, r, l) {
             return true;
         }
         p += 1;
@@ -199,12 +157,6 @@ fn over_eligible(a: Auction, b: usize, lines: [Line; 8]) -> bool
 
 // ---- 11: "withdrawn above R on a product, or total not w"
 
-fn may_withdraw(r: Record, l: Line) -> bool
-    ensures { λ x. ⌜ x ≡ mayWithdraw r l ⌝ }
-{
-    l.withdrawn.count.0 as u32 <= reduction(r, l)
-}
-
 fn withdrawn_fit(a: Auction, b: usize, lines: [Line; 8]) -> bool
     requires { ⌜ Counts a × (b < 32) ⌝ }
     ensures { λ x. ⌜ x ≡ allUpTo (λ p. mayWithdraw (recordOf a b p) (onProduct lines p)) (a .terms .products) ⌝ }
@@ -215,7 +167,7 @@ fn withdrawn_fit(a: Auction, b: usize, lines: [Line; 8]) -> bool
         let k = b * 8 + p;
         let r = a.records[k];
         let l = lines[p];
-        if !may_withdraw(r, l) {
+        if !bidline::may_withdraw(r, l) {
             return false;
         }
         p += 1;
@@ -249,18 +201,6 @@ fn wrong_withdrawn(a: Auction, b: usize, lines: [Line; 8]) -> bool
 
 // ---- 12: "withdrawn > 0 and exit not in p < x <= q; or withdrawn = 0 and exit not 0"
 
-fn exit_fits(l: Line, p: u32, q: u32) -> bool
-    ensures { λ x. ⌜ x ≡ exitFits l p q ⌝ }
-{
-    if l.withdrawn.count.0 == 0 {
-        return l.withdrawn.exit == 0;
-    }
-    if l.withdrawn.exit <= p {
-        return false;
-    }
-    l.withdrawn.exit <= q
-}
-
 // What is held has no part in it: the rule is the same for every bidder.
 fn wrong_exit(a: Auction, lines: [Line; 8]) -> bool
     requires { ⌜ Counts a ⌝ }
@@ -270,7 +210,7 @@ fn wrong_exit(a: Auction, lines: [Line; 8]) -> bool
     let mut p: usize = 0;
     while p < m {
         let l = lines[p];
-        if !exit_fits(l, a.price[p], a.before[p]) {
+        if !bidline::exit_fits(l, a.price[p], a.before[p]) {
             return true;
         }
         p += 1;
@@ -279,36 +219,6 @@ fn wrong_exit(a: Auction, lines: [Line; 8]) -> bool
 }
 
 // ---- 13: "s > 0 and increased products not numbered 1 to k once each, others 0; or s = 0 and a priority not 0"
-
-fn one_if_increased(r: Record, l: Line) -> u32
-    ensures { λ x. ⌜ (x ≡ oneIf (isIncreased r l)) × (x ≤ 1) ⌝ }
-{
-    if increase(r, l) == 0 {
-        return 0;
-    }
-    1
-}
-
-fn one_if_numbered(r: Record, l: Line, number: u8) -> u32
-    ensures { λ x. ⌜ (x ≡ oneIf (hasNumber r l number)) × (x ≤ 1) ⌝ }
-{
-    if increase(r, l) == 0 {
-        return 0;
-    }
-    if l.priority != number {
-        return 0;
-    }
-    1
-}
-
-fn may_number(r: Record, l: Line) -> bool
-    ensures { λ x. ⌜ x ≡ mayNumber r l ⌝ }
-{
-    if increase(r, l) > 0 {
-        return true;
-    }
-    l.priority == 0
-}
 
 // How many products are increased.
 fn increased_count(a: Auction, b: usize, lines: [Line; 8]) -> u32
@@ -322,7 +232,7 @@ fn increased_count(a: Auction, b: usize, lines: [Line; 8]) -> u32
         let k = b * 8 + p;
         let r = a.records[k];
         let l = lines[p];
-        sum += one_if_increased(r, l);
+        sum += bidline::one_if_increased(r, l);
         p += 1;
     }
     sum
@@ -340,7 +250,7 @@ fn numbered(a: Auction, b: usize, lines: [Line; 8], number: u8) -> u32
         let k = b * 8 + p;
         let r = a.records[k];
         let l = lines[p];
-        sum += one_if_numbered(r, l, number);
+        sum += bidline::one_if_numbered(r, l, number);
         p += 1;
     }
     sum
@@ -357,7 +267,7 @@ fn others_zero(a: Auction, b: usize, lines: [Line; 8]) -> bool
         let k = b * 8 + p;
         let r = a.records[k];
         let l = lines[p];
-        if !may_number(r, l) {
+        if !bidline::may_number(r, l) {
             return false;
         }
         p += 1;
@@ -468,33 +378,6 @@ pub fn slot(a: Auction, b: usize) -> [Line; 8]
     lines
 }
 
-// "No card: the default bid is 0 on each ticked product, all withdrawn at exit price q, and b = g elsewhere."
-fn default_line(tick: bool, q: u32, r: Record) -> Line
-    ensures { λ x. ⌜ x ≡ defaultLine tick q r ⌝ }
-{
-    if !tick {
-        return Line {
-            tranches: Tranches(r.going.0),
-            withdrawn: Lot {
-                count: Tranches(0),
-                exit: 0,
-            },
-            priority: 0,
-        };
-    }
-    if r.going.0 == 0 {
-        return Line::none();
-    }
-    Line {
-        tranches: Tranches(0),
-        withdrawn: Lot {
-            count: Tranches(r.going.0),
-            exit: q,
-        },
-        priority: 0,
-    }
-}
-
 // The bidder's bid on a product: its card's, or the default.
 pub fn bid_on(a: Auction, b: usize, p: usize) -> Line
     requires { ⌜ Counts a × ((b < 32) × (p < 8)) ⌝ }
@@ -505,5 +388,5 @@ pub fn bid_on(a: Auction, b: usize, p: usize) -> Line
         return a.bids[k];
     }
     let tick = held::ticked(a, p);
-    default_line(tick, a.before[p], a.records[k])
+    bidline::default_line(tick, a.before[p], a.records[k])
 }

@@ -57,8 +57,8 @@ pub fn row_held(a: Auction, b: usize) -> u32
     let mut p: usize = 0;
     while p < m {
         let k = b * 8 + p;
-        let r = a.records[k];
-        sum += r.held();
+        let own = a.records[k];
+        sum += own.held();
         p += 1;
     }
     sum

@@ -13,7 +13,7 @@ use Rattle.rules.specs.Bid.{bidIn, withdrawnIn, exitOn, reduction, incre
 use Rattle.rules.specs.Standing.{isOpen}
 use Rattle.rules.proofs.Sums.{sum-ext, sum-le, sum-zero}
 use Rattle.rules.proofs.Lists.{all-give, clash}
-use Rattle.rules.proofs.Tests.{above-take}
+use Rattle.rules.proofs.Signed.{above-true}
 use Rattle.rules.proofs.Stands.{Stands, Accepted}
 
 -- what a default line is
@@ -66,7 +66,7 @@ module _ (a : Auction) (S : Stands a) (o : isOpen a ≡ true) (b : ℕ) (hb : b 
         omega (arith, no-increase);
     exits = λ p h w.
         let x = is p .exit w in
-        let f = S .fell p h o (above-take (held (a .records) (a .terms .bidders) p) (targetOf (a .terms) p) (x .1)) in
+        let f = S .fell p h o (above-true (held (a .records) (a .terms .bidders) p) (targetOf (a .terms) p) (x .1)) in
         let y = x .0 in
         omega arith;
     no-exit = λ p h w. is p .no-exit w;

@@ -2,6 +2,7 @@ pub mod Sums
 pub mod Lists
 pub mod Fill
 pub mod Tests
+pub mod Signed
 pub mod Stands
 pub mod Standing
 pub mod Judged
@@ -14,7 +15,6 @@ pub mod Storing
 pub mod Priorities
 pub mod Fitting
 pub mod Calling
-pub mod Signed
 pub mod Places
 pub mod Keep
 pub mod Outbidding

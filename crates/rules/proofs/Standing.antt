@@ -14,7 +14,8 @@ use Rattle.rules.specs.Bid.{recordOf, priceAt, beforeAt}
 use Rattle.rules.specs.Standing.{implies, keptOn, isOpen, productStands, recordWithin, recordStands, bidderStands, slotStands, stands}
 use Rattle.rules.proofs.Sums.{and-left, and-right}
 use Rattle.rules.proofs.Lists.{all-give, all-take}
-use Rattle.rules.proofs.Tests.{told, shown, above-take, above-give}
+use Rattle.rules.proofs.Signed.{above-true, lt-above}
+use Rattle.rules.proofs.Tests.{told, shown}
 use Rattle.rules.proofs.Stands.{Limits, Stands}
 
 -- ---- settings
@@ -115,7 +116,7 @@ module _ (a : Auction) (s : stands a ≡ true) where
     round = search told;
     prices = λ p h. let x = rw (lt-ltb p (a .terms .products) h) at (product-in p (omega (arith, limits .products))) in search told;
     fell = λ p h o k.
-        let x = rw (lt-ltb p (a .terms .products) h, o, above-give (held (a .records) (a .terms .bidders) p) (targetOf (a .terms) p) k)
+        let x = rw (lt-ltb p (a .terms .products) h, o, lt-above (held (a .records) (a .terms .bidders) p) (targetOf (a .terms) p) k)
         at (product-in p (omega (arith, limits .products))) in
         search told;
     kept = λ p h k.
@@ -153,7 +154,7 @@ module _ (a : Auction) (S : Stands a) where
       let x = S .prices p h in
       let f = implied (isOpen a && ticked a p) (ltb (priceAt a p) (beforeAt a p)) (λ o.
       lt-ltb _ _ (S .fell p h (and-left (isOpen a) (ticked a p) o)
-      (above-take (held (a .records) (a .terms .bidders) p) (targetOf (a .terms) p) (and-right (isOpen a) (ticked a p) o)))) in
+      (above-true (held (a .records) (a .terms .bidders) p) (targetOf (a .terms) p) (and-right (isOpen a) (ticked a p) o)))) in
       let k = implied (ltb 0 (keptOn a p))
       (ltb (priceAt a p) (beforeAt a p) && eqb (held (a .records) (a .terms .bidders) p) (targetOf (a .terms) p)) (λ o.
       let y = S .kept p h (ltb-true 0 (keptOn a p) o) in search shown) in

@@ -1,41 +1,27 @@
-use Rattle.rules.specs.Bid.{judged}
 use borrow.Author.Needs.{needs}
+use Rattle.rules.specs.Bid.{judged}
 use Rattle.bids.proofs.judge.Statement.{statement}
 use Rattle.bids.proofs.judge.Tie as tie
-use Rattle.bids.proofs.judge.Reads as reads
-use Rattle.bids.proofs.judge.Lts as lts
-use Rattle.bids.proofs.over_cap.Reads as over-cap-reads
-use Rattle.bids.proofs.over_eligible.Reads as over-eligible-reads
-use Rattle.bids.proofs.wrong_exit.Reads as wrong-exit-reads
-use Rattle.bids.proofs.wrong_priority.Reads as wrong-priority-reads
-use Rattle.bids.proofs.wrong_reduction.Reads as wrong-reduction-reads
-use Rattle.bids.proofs.wrong_withdrawn.Reads as wrong-withdrawn-reads
 
--- src/lib.rt:426:8
 over-cap-requires : tie.Need-over-cap-requires
 over-cap-requires c κs = search needs
 
--- src/lib.rt:427:9
 returns : tie.Need-returns
 unfolding judged
 returns c = rw (← c .before .over-cap .ensures, c .if1 .taken)
 
--- src/lib.rt:429:8
 wrong-reduction-requires : tie.Need-wrong-reduction-requires
 wrong-reduction-requires c κs = search needs
 
--- src/lib.rt:430:9
 returns-2 : tie.Need-returns-2
 unfolding judged
 returns-2 c =
     let u = c .before .before in
     rw (← u .before .over-cap .ensures, u .if1 .left, ← c .before .wrong-reduction .ensures, c .if2 .taken)
 
--- src/lib.rt:432:8
 over-eligible-requires : tie.Need-over-eligible-requires
 over-eligible-requires c κs = search needs
 
--- src/lib.rt:433:9
 returns-3 : tie.Need-returns-3
 unfolding judged
 returns-3 c =
@@ -43,11 +29,9 @@ returns-3 c =
     let u = v .before .before in
     rw (← u .before .over-cap .ensures, u .if1 .left, ← v .before .wrong-reduction .ensures, v .if2 .left, ← c .before .over-eligible .ensures, c .if3 .taken)
 
--- src/lib.rt:435:8
 wrong-withdrawn-requires : tie.Need-wrong-withdrawn-requires
 wrong-withdrawn-requires c κs = search needs
 
--- src/lib.rt:436:9
 returns-4 : tie.Need-returns-4
 unfolding judged
 returns-4 c =
@@ -56,11 +40,9 @@ returns-4 c =
     let u = v .before .before in
     rw (← u .before .over-cap .ensures, u .if1 .left, ← v .before .wrong-reduction .ensures, v .if2 .left, ← w .before .over-eligible .ensures, w .if3 .left, ← c .before .wrong-withdrawn .ensures, c .if4 .taken)
 
--- src/lib.rt:438:8
 wrong-exit-requires : tie.Need-wrong-exit-requires
 wrong-exit-requires c κs = search needs
 
--- src/lib.rt:439:9
 returns-5 : tie.Need-returns-5
 unfolding judged
 returns-5 c =
@@ -70,11 +52,9 @@ returns-5 c =
     let u = v .before .before in
     rw (← u .before .over-cap .ensures, u .if1 .left, ← v .before .wrong-reduction .ensures, v .if2 .left, ← w .before .over-eligible .ensures, w .if3 .left, ← x .before .wrong-withdrawn .ensures, x .if4 .left, ← c .before .wrong-exit .ensures (u .before .before .args .b), c .if5 .taken)
 
--- src/lib.rt:441:8
 wrong-priority-requires : tie.Need-wrong-priority-requires
 wrong-priority-requires c κs = search needs
 
--- src/lib.rt:442:9
 returns-6 : tie.Need-returns-6
 unfolding judged
 returns-6 c =
@@ -85,7 +65,6 @@ returns-6 c =
     let u = v .before .before in
     rw (← u .before .over-cap .ensures, u .if1 .left, ← v .before .wrong-reduction .ensures, v .if2 .left, ← w .before .over-eligible .ensures, w .if3 .left, ← x .before .wrong-withdrawn .ensures, x .if4 .left, ← y .before .wrong-exit .ensures (u .before .before .args .b), y .if5 .left, ← c .before .wrong-priority .ensures, c .if6 .taken)
 
--- src/lib.rt:422:1
 returns-7 : tie.Need-returns-7
 unfolding judged
 returns-7 c =

@@ -1,18 +1,14 @@
-use mathlib.Core.Path.{sym, ap}
-use mathlib.Core.Bool.{not}
-use Rattle.bids.proofs.All.{fails, goes-on, passes}
-use Rattle.rules.specs.Count.{sumUpTo, allUpTo}
-use Rattle.rules.specs.Bid.{bidIn, withdrawnIn, reduction, increase, oneIf, increased, recordOf, priceAt, beforeAt, onProduct}
+use mathlib.Core.Bool.{true, false}
+use mathlib.Core.Path.{sym, _≡_, refl}
+use Prim.Native.Nat.{_≤_, _-_}
+use borrow.Author.Needs.{needs}
 use borrow.Author.Tests.{eq-eqb, ne-eqb}
 use lib.Dec.{eqb}
-use Prim.Native.Nat.{_≤_, _-_}
-use mathlib.Core.Bool.{true, false}
-use mathlib.Core.Path.{_≡_, sym, refl}
-use borrow.Author.Needs.{needs}
+use Rattle.rules.specs.Bid.{onProduct}
+use Rattle.rules.specs.Count.{allUpTo}
+use Rattle.bids.proofs.All.{fails, goes-on, passes}
 use Rattle.bids.proofs.no_priority.Statement.{statement}
 use Rattle.bids.proofs.no_priority.Tie as tie
-use Rattle.bids.proofs.no_priority.Reads as reads
-use Rattle.bids.proofs.no_priority.Lts as lts
 
 abbrev Inv-loop : tie.InvT-loop
 Inv-loop m lines p₀ p = (p ≤ m) × (allUpTo (λ p. eqb (onProduct lines p .priority) 0) p ≡ true)
@@ -20,36 +16,32 @@ Inv-loop m lines p₀ p = (p ≤ m) × (allUpTo (λ p. eqb (onProduct lines p .p
 abbrev μ-loop : tie.MeasureT-loop
 μ-loop m lines p₀ p = m - p
 
--- src/lib.rt:399:5
 loop-holds : tie.Need-loop-holds Inv-loop μ-loop
 unfolding allUpTo
 loop-holds c = search needs
 
--- src/lib.rt:400:17
 mul-l : tie.Need-mul-l Inv-loop μ-loop
 mul-l c = search needs
 
--- src/lib.rt:400:17
 array-copy-out-l : tie.Need-array-copy-out-l Inv-loop μ-loop
 array-copy-out-l c = search needs
 
--- src/lib.rt:402:13
 returns : tie.Need-returns Inv-loop μ-loop
-returns c = let d = c .before .before .before .before .loop in sym (fails _ _ (d .inv .1) _ false (sym (ne-eqb _ _ (c .if1 .taken))) refl (search needs))
+returns c =
+    let d = c .before .before .before .before .loop in
+    sym (fails _ _ (d .inv .1) _ false (sym (ne-eqb _ _ (c .if1 .taken))) refl (search needs))
 
--- src/lib.rt:404:9
 add-p : tie.Need-add-p Inv-loop μ-loop
 add-p c = search needs
 
--- src/lib.rt:399:5
 loop-less : tie.Need-loop-less Inv-loop μ-loop
 loop-less c = search needs
 
--- src/lib.rt:399:5
 loop-again : tie.Need-loop-again Inv-loop μ-loop
-loop-again c = let d = c .before .before .before .before .loop in (search needs, goes-on _ _ (d .inv .1) true (sym (eq-eqb _ _ (c .if1 .left))) refl)
+loop-again c =
+    let d = c .before .before .before .before .loop in
+    (search needs, goes-on _ _ (d .inv .1) true (sym (eq-eqb _ _ (c .if1 .left))) refl)
 
--- src/lib.rt:394:1
 returns-2 : tie.Need-returns-2 Inv-loop μ-loop
 returns-2 c = sym (passes _ _ (c .before .loop .inv .1) _ (search needs) (search needs))
 

@@ -1,21 +1,13 @@
-use mathlib.Core.Path.{sym, ap}
-use mathlib.Core.Bool.{not}
-use Rattle.bids.proofs.All.{fails, goes-on, passes}
-use Rattle.rules.specs.Count.{sumUpTo, allUpTo}
-use Rattle.bids.specs.Lines.{withinCap, mayReduce, mayWithdraw, exitFits, isIncreased, hasNumber, mayNumber}
-use Rattle.rules.specs.Held.{goingIn, ticked}
-use Rattle.rules.specs.Bid.{bidIn, withdrawnIn, reduction, increase, oneIf, increased, recordOf, priceAt, beforeAt, onProduct}
-use Rattle.rules.specs.Settings.{capOf}
-use lib.Dec.{eqb}
+use mathlib.Core.Bool.{not, true}
+use mathlib.Core.Path.{sym, ap, _≡_}
 use Prim.Native.Nat.{_≤_, _-_}
-use mathlib.Core.Bool.{true}
-use mathlib.Core.Path.{_≡_}
 use borrow.Author.Needs.{needs}
+use Rattle.rules.specs.Bid.{priceAt, beforeAt, onProduct}
+use Rattle.rules.specs.Count.{allUpTo}
+use Rattle.bidline.specs.Lines.{exitFits}
+use Rattle.bids.proofs.All.{fails, goes-on, passes}
 use Rattle.bids.proofs.wrong_exit.Statement.{statement}
 use Rattle.bids.proofs.wrong_exit.Tie as tie
-use Rattle.bids.proofs.wrong_exit.Reads as reads
-use Rattle.bids.proofs.wrong_exit.Lts as lts
-use Rattle.bids.proofs.exit_fits.Reads as exit-fits-reads
 
 abbrev Inv-loop : tie.InvT-loop
 Inv-loop a lines m p₀ p = (p ≤ m) × (allUpTo (λ p. exitFits (onProduct lines p) (priceAt a p) (beforeAt a p)) p ≡ true)
@@ -23,60 +15,52 @@ Inv-loop a lines m p₀ p = (p ≤ m) × (allUpTo (λ p. exitFits (onProduct lin
 abbrev μ-loop : tie.MeasureT-loop
 μ-loop a lines m p₀ p = m - p
 
--- src/lib.rt:269:13
 cast-m : tie.Need-cast-m Inv-loop μ-loop
 cast-m c = search needs
 
--- src/lib.rt:271:5
 loop-holds : tie.Need-loop-holds Inv-loop μ-loop
 unfolding allUpTo
 loop-holds c = search needs
 
--- src/lib.rt:272:17
 mul-l : tie.Need-mul-l Inv-loop μ-loop
 mul-l c = search needs
 
--- src/lib.rt:272:17
 array-copy-out-l : tie.Need-array-copy-out-l Inv-loop μ-loop
 array-copy-out-l c = search needs
 
--- src/lib.rt:273:26
 mul-exit-fits : tie.Need-mul-exit-fits Inv-loop μ-loop
 mul-exit-fits c = search needs
 
--- src/lib.rt:273:26
 element-copy-out-exit-fits : tie.Need-element-copy-out-exit-fits Inv-loop μ-loop
 element-copy-out-exit-fits c = search needs
 
--- src/lib.rt:273:38
 mul-exit-fits-2 : tie.Need-mul-exit-fits-2 Inv-loop μ-loop
 mul-exit-fits-2 c = search needs
 
--- src/lib.rt:273:38
 element-copy-out-exit-fits-2 : tie.Need-element-copy-out-exit-fits-2 Inv-loop μ-loop
 element-copy-out-exit-fits-2 c = search needs
 
--- src/lib.rt:273:13
 exit-fits-requires : tie.Need-exit-fits-requires Inv-loop μ-loop
 exit-fits-requires c κs = search needs
 
--- src/lib.rt:274:13
 returns : tie.Need-returns Inv-loop μ-loop
-returns c = let d = c .before .before .before .before .before .before .loop in let t = c .before .exit-fits in λ b. sym (ap not (fails _ _ (d .inv .1) _ (t .result) (t .ensures) (c .if1 .taken) (search needs)))
+returns c =
+    let d = c .before .before .before .before .before .before .loop in
+    let t = c .before .exit-fits in
+    λ b. sym (ap not (fails _ _ (d .inv .1) _ (t .result) (t .ensures) (c .if1 .taken) (search needs)))
 
--- src/lib.rt:276:9
 add-p : tie.Need-add-p Inv-loop μ-loop
 add-p c = search needs
 
--- src/lib.rt:271:5
 loop-less : tie.Need-loop-less Inv-loop μ-loop
 loop-less c = search needs
 
--- src/lib.rt:271:5
 loop-again : tie.Need-loop-again Inv-loop μ-loop
-loop-again c = let d = c .before .before .before .before .before .before .loop in let t = c .before .exit-fits in (search needs, goes-on _ _ (d .inv .1) (t .result) (t .ensures) (c .if1 .left))
+loop-again c =
+    let d = c .before .before .before .before .before .before .loop in
+    let t = c .before .exit-fits in
+    (search needs, goes-on _ _ (d .inv .1) (t .result) (t .ensures) (c .if1 .left))
 
--- src/lib.rt:265:1
 returns-2 : tie.Need-returns-2 Inv-loop μ-loop
 returns-2 c = λ b. sym (ap not (passes _ _ (c .before .loop .inv .1) _ (search needs) (search needs)))
 

@@ -1,15 +1,13 @@
-use Rattle.rules.specs.Count.{sumUpTo}
-use Rattle.rules.specs.Held.{freeOf}
-use Prim.Native.Nat.{_+_, _≤_, _*_, _-_}
 use mathlib.Core.Path.{_≡_}
+use Prim.Native.Nat.{_≤_, _*_, _-_}
+use native.Mathlib.Nat.{le-antisymm}
 use native.Mathlib.Numerals.{add-one}
 use native.Mathlib.Omega.{arith}
-use native.Mathlib.Nat.{le-antisymm}
 use borrow.Author.Needs.{needs}
+use Rattle.rules.specs.Count.{sumUpTo}
+use Rattle.rules.specs.Held.{freeOf}
 use Rattle.held.proofs.all_free.Statement.{statement}
 use Rattle.held.proofs.all_free.Tie as tie
-use Rattle.held.proofs.all_free.Reads as reads
-use Rattle.held.proofs.all_free.Lts as lts
 
 abbrev Inv-loop : tie.InvT-loop
 Inv-loop a n sum₀ b₀ sum b = (b ≤ n) × ((sum ≤ 65535 * b) × (sum ≡ sumUpTo (freeOf a) b))
@@ -17,43 +15,33 @@ Inv-loop a n sum₀ b₀ sum b = (b ≤ n) × ((sum ≤ 65535 * b) × (sum ≡ s
 abbrev μ-loop : tie.MeasureT-loop
 μ-loop a n sum₀ b₀ sum b = n - b
 
--- src/lib.rt:122:13
 cast-n : tie.Need-cast-n Inv-loop μ-loop
 cast-n c = search needs
 
--- src/lib.rt:125:5
 loop-holds : tie.Need-loop-holds Inv-loop μ-loop
 loop-holds c = search needs
 
--- src/lib.rt:126:17
 mul-f : tie.Need-mul-f Inv-loop μ-loop
 mul-f c = search needs
 
--- src/lib.rt:126:17
 element-copy-out-f : tie.Need-element-copy-out-f Inv-loop μ-loop
 element-copy-out-f c = search needs
 
--- src/lib.rt:127:16
 cast-sum : tie.Need-cast-sum Inv-loop μ-loop
 cast-sum c = search needs
 
--- src/lib.rt:127:9
 add-sum : tie.Need-add-sum Inv-loop μ-loop
 add-sum c = search needs
 
--- src/lib.rt:128:9
 add-b : tie.Need-add-b Inv-loop μ-loop
 add-b c = search needs
 
--- src/lib.rt:125:5
 loop-less : tie.Need-loop-less Inv-loop μ-loop
 loop-less c = search needs
 
--- src/lib.rt:125:5
 loop-again : tie.Need-loop-again Inv-loop μ-loop
 loop-again c = rw add-one (omega arith)
 
--- src/lib.rt:118:1
 returns : tie.Need-returns Inv-loop μ-loop
 returns c = (cc (le-antisymm (c .before .loop .inv .0) (c .loop-test .left)), omega arith)
 

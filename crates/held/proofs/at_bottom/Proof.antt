@@ -1,19 +1,16 @@
-use Rattle.held.proofs.Search.{found, found-none, not-yet}
-use Rattle.rules.specs.Bid.{priceAt}
-use Rattle.rules.specs.Held.{ticked}
-use Rattle.rules.specs.Count.{firstUpTo}
-use lib.Dec.{eqb}
-use Rattle.rules.specs.declared.Pick.the-variants.{Nobody}
-use Rattle.rules.specs.declared.Auction.{Auction}
-use Prim.Native.Nat.{ℕ, _≤_, _-_}
 use mathlib.Core.Bool.{Bool, _&&_}
 use mathlib.Core.Path.{_≡_, sym, _∙_}
+use Prim.Native.Nat.{ℕ, _≤_, _-_}
 use borrow.Author.Needs.{needs}
+use lib.Dec.{eqb}
+use Rattle.rules.specs.Bid.{priceAt}
+use Rattle.rules.specs.Count.{firstUpTo}
+use Rattle.rules.specs.Held.{ticked}
+use Rattle.rules.specs.declared.Auction.{Auction}
+use Rattle.rules.specs.declared.Pick.the-variants.{Nobody}
+use Rattle.held.proofs.Search.{found, found-none, not-yet}
 use Rattle.held.proofs.at_bottom.Statement.{statement}
 use Rattle.held.proofs.at_bottom.Tie as tie
-use Rattle.held.proofs.at_bottom.Reads as reads
-use Rattle.held.proofs.at_bottom.Lts as lts
-use Rattle.held.proofs.fell_to_one.Reads as fell-to-one-reads
 
 -- above target at price 1
 abbrev atOne : Auction → ℕ → Bool
@@ -25,37 +22,38 @@ Inv-loop a m p₀ p = (p ≤ m) × (firstUpTo (atOne a) p ≡ Nobody)
 abbrev μ-loop : tie.MeasureT-loop
 μ-loop a m p₀ p = m - p
 
--- src/lib.rt:146:13
 cast-m : tie.Need-cast-m Inv-loop μ-loop
 cast-m c = search needs
 
--- src/lib.rt:148:5
 loop-holds : tie.Need-loop-holds Inv-loop μ-loop
 loop-holds c = search needs
 
--- src/lib.rt:149:12
 fell-to-one-requires : tie.Need-fell-to-one-requires Inv-loop μ-loop
 fell-to-one-requires c κs = search needs
 
--- src/lib.rt:150:13
 returns : tie.Need-returns Inv-loop μ-loop
-returns c = let a = c .before .before .before .before .before .args .a in let i = c .before .before .before .loop in found (atOne a) (a .terms .products) (i .p) (i .inv .1) (search needs) (sym (c .before .fell-to-one .ensures) ∙ c .if1 .taken)
+returns c =
+    let a = c .before .before .before .before .before .args .a in
+    let i = c .before .before .before .loop in
+    found (atOne a) (i .p) (i .inv .1) (a .terms .products) (search needs) (sym (c .before .fell-to-one .ensures) ∙ c .if1 .taken)
 
--- src/lib.rt:152:9
 add-p : tie.Need-add-p Inv-loop μ-loop
 add-p c = search needs
 
--- src/lib.rt:148:5
 loop-less : tie.Need-loop-less Inv-loop μ-loop
 loop-less c = search needs
 
--- src/lib.rt:148:5
 loop-again : tie.Need-loop-again Inv-loop μ-loop
-loop-again c = let a = c .before .before .before .before .before .args .a in let i = c .before .before .before .loop in (search needs, not-yet (atOne a) (a .terms .products) (i .p) (i .inv .1) (sym (c .before .fell-to-one .ensures) ∙ c .if1 .left))
+loop-again c =
+    let a = c .before .before .before .before .before .args .a in
+    let i = c .before .before .before .loop in
+    (search needs, not-yet (atOne a) (i .p) (i .inv .1) (sym (c .before .fell-to-one .ensures) ∙ c .if1 .left))
 
--- src/lib.rt:142:1
 returns-2 : tie.Need-returns-2 Inv-loop μ-loop
-returns-2 c = let a = c .before .before .before .args .a in let i = c .before .loop in found-none (atOne a) (a .terms .products) (i .p) (i .inv .1) (search needs) (search needs)
+returns-2 c =
+    let a = c .before .before .before .args .a in
+    let i = c .before .loop in
+    found-none (atOne a) (i .p) (i .inv .1) (a .terms .products) (search needs) (search needs)
 
 pub at-bottom-spec : {M : Type 1} → statement M
 at-bottom-spec =

@@ -1,28 +1,20 @@
-use borrow.Author.Tests.{not-true, not-false}
 use borrow.Author.Needs.{needs}
+use borrow.Author.Tests.{not-true, not-false}
 use Rattle.held.proofs.fell_to_one.Statement.{statement}
 use Rattle.held.proofs.fell_to_one.Tie as tie
-use Rattle.held.proofs.fell_to_one.Reads as reads
-use Rattle.held.proofs.fell_to_one.Lts as lts
-use Rattle.held.proofs.ticked.Reads as ticked-reads
 
--- src/lib.rt:161:9
 ticked-requires : tie.Need-ticked-requires
 ticked-requires c κs = search needs
 
--- src/lib.rt:162:9
 returns : tie.Need-returns
 returns c = rw (← c .before .ticked .ensures, not-true (c .before .ticked .result) (c .if1 .taken))
 
--- src/lib.rt:164:5
 mul-result : tie.Need-mul-result
 mul-result c = search needs
 
--- src/lib.rt:164:5
 element-copy-out-result : tie.Need-element-copy-out-result
 element-copy-out-result c = search needs
 
--- src/lib.rt:157:1
 returns-2 : tie.Need-returns-2
 returns-2 c = rw (← c .before .before .ticked .ensures, not-false (c .before .before .ticked .result) (c .before .if1 .left))
 

@@ -1,41 +1,31 @@
 use mathlib.Core.Path.{_≡_, _∙_, ap₂}
-use lib.IntN.{subℕ}
 use native.Mathlib.Nat.{le-trans}
-use Rattle.rules.specs.Held.{standingOf}
 use native.Mathlib.Omega.{arith}
-use Rattle.held.proofs.Signed.{less, less-fits, less-back, above-le}
 use borrow.Author.Needs.{needs}
+use lib.IntN.{subℕ}
+use Rattle.rules.specs.Held.{standingOf}
+use Rattle.held.proofs.Signed.{less, less-fits, less-back, above-le}
 use Rattle.held.proofs.standing.Statement.{statement}
 use Rattle.held.proofs.standing.Tie as tie
-use Rattle.held.proofs.standing.Reads as reads
-use Rattle.held.proofs.standing.Lts as lts
-use Rattle.held.proofs.held.Reads as held-reads
-use Rattle.held.proofs.target.Reads as target-reads
 
--- src/lib.rt:81:5
 held-requires : tie.Need-held-requires
 held-requires c κs = search needs
 
--- src/lib.rt:81:5
 cast-result : tie.Need-cast-result
 cast-result c = search needs
 
--- src/lib.rt:81:25
 target-requires : tie.Need-target-requires
 target-requires c κs = search needs
 
--- src/lib.rt:81:25
 cast-result-2 : tie.Need-cast-result-2
 cast-result-2 c = search needs
 
--- src/lib.rt:81:5
 sub-result : tie.Need-sub-result
 sub-result c =
     let x = c .before .held .result in
     let y = c .target .result in
     rw (less x y (omega arith) (omega arith)) (less-fits x y (omega arith) (omega arith))
 
--- src/lib.rt:77:1
 returns : tie.Need-returns
 returns c =
     let x = c .before .held .result in

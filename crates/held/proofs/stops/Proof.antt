@@ -1,19 +1,13 @@
 use borrow.Author.Needs.{needs}
 use Rattle.held.proofs.stops.Statement.{statement}
 use Rattle.held.proofs.stops.Tie as tie
-use Rattle.held.proofs.stops.Reads as reads
-use Rattle.held.proofs.stops.Lts as lts
-use Rattle.held.proofs.at_bottom.Reads as at-bottom-reads
 
--- src/lib.rt:172:8
 at-bottom-requires : tie.Need-at-bottom-requires
 at-bottom-requires c κs = search needs
 
--- src/lib.rt:173:9
 returns : tie.Need-returns
 returns c = rw (← c .before .at-bottom .ensures, c .if1 .taken)
 
--- src/lib.rt:168:1
 returns-2 : tie.Need-returns-2
 returns-2 c = rw (← c .before .before .at-bottom .ensures, c .before .if1 .left)
 

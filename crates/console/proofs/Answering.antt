@@ -1,0 +1,33 @@
+-- A call's number as its answer and its bytes. Assumes nothing.
+use mathlib.Core.Path.{_≡_, refl, sym}
+use mathlib.Core.Bool.{cond}
+use mathlib.Core.List.{List}
+use Prim.Native.Nat.{ℕ, zero, suc}
+use native.Mathlib.Omega.{arith}
+use borrow.Author.Tests.{eq-eqb, ne-eqb}
+use lib.Dec.{eqb}
+use Rattle.rules.specs.declared.Answer.the-variants.{Done, Refused}
+use Rattle.rules.specs.Answers.{Outcome, answerFrom, unlessRefused}
+
+-- the answer and the bytes of an outcome
+abbrev pub Gives : {A : Type 0} → Outcome A → A → List ℕ → Type 0
+Gives o a s = (a ≡ o .answer) × (s ≡ o .bytes)
+
+number-said : (n : ℕ) → (n ≡ 0 → ⊥) → Refused n ≡ answerFrom n
+number-said zero h = absurd (h refl)
+number-said (suc n) h = refl
+
+-- "Every refusal returns its number only and writes nothing."
+pub refuses : (n k : ℕ) (new old : List ℕ) → n ≡ k → (n ≡ 0 → ⊥) → Gives (unlessRefused k new old) (Refused n) old
+refuses n k new old e h = rw (← e, ne-eqb n 0 h) (number-said n h, refl)
+
+-- 0 is done
+pub does : (n k : ℕ) (new old s : List ℕ) → n ≡ k → n ≡ 0 → s ≡ new → Gives (unlessRefused k new old) Done s
+does n k new old s e z h = rw (← e, z) (refl, h)
+
+-- an answer of its own, or the number
+pub refuses-with : {A : Type 0} (n k : ℕ) (done : A) (no : ℕ → A) → n ≡ k → (n ≡ 0 → ⊥) → no n ≡ cond (eqb k 0) done (no k)
+refuses-with n k done no e h = rw (← e, ne-eqb n 0 h)
+
+pub answers-with : {A : Type 0} (n k : ℕ) (done : A) (no : ℕ → A) (a : A) → n ≡ k → n ≡ 0 → a ≡ done → a ≡ cond (eqb k 0) done (no k)
+answers-with n k done no a e z h = rw (← e, z) h

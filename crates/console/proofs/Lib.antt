@@ -1,0 +1,5 @@
+pub mod Answering
+pub mod StateLaws
+pub mod Counting
+pub mod Opening
+pub mod Fitting

@@ -1,0 +1,41 @@
+-- Open and return: a refusal says its number and writes nothing. Assumes nothing.
+use mathlib.Core.Path.{_≡_, refl, _∙_, ap}
+use mathlib.Core.Bool.{true, false}
+use mathlib.Core.List.{List}
+use Prim.Native.Nat.{ℕ}
+use borrow.Author.Tests.{eq-eqb, ne-eqb}
+use lib.ListN.{length, replicate}
+use Rattle.rules.specs.declared.Answer.the-variants.{Done, Refused}
+use Rattle.rules.specs.declared.Settings.{Settings}
+use Rattle.rules.specs.Settings.{settingsFit, termsOf}
+use Rattle.rules.specs.Layout.{stateLength, stored, allZero}
+use Rattle.rules.specs.Calls.{opened, openCall, returnCall}
+use Rattle.console.proofs.Answering.{Gives}
+
+module _ (s : List ℕ) (x : Settings) where
+  pub open-1 : (length s ≡ 3333 → ⊥) → Gives (openCall s x) (Refused 1) s
+  unfolding openCall
+  open-1 l = rw (ne-eqb (length s) 3333 l) (refl, refl)
+
+  module _ (l : length s ≡ 3333) where
+    pub open-17 : allZero s ≡ false → Gives (openCall s x) (Refused 17) s
+    unfolding openCall
+    open-17 z = rw (eq-eqb (length s) 3333 l, z) (refl, refl)
+
+    module _ (z : allZero s ≡ true) where
+      pub open-15 : settingsFit x ≡ false → Gives (openCall s x) (Refused 15) s
+      unfolding openCall
+      open-15 f = rw (eq-eqb (length s) 3333 l, z, f) (refl, refl)
+
+      pub open-done : settingsFit x ≡ true → (t : List ℕ) → t ≡ stored (opened (termsOf x)) → Gives (openCall s x) Done t
+      unfolding openCall
+      open-done f t e = rw (eq-eqb (length s) 3333 l, z, f) (refl, e)
+
+module _ (s : List ℕ) where
+  pub return-1 : (length s ≡ 3333 → ⊥) → Gives (returnCall s) (Refused 1) s
+  unfolding returnCall
+  return-1 l = rw (ne-eqb (length s) 3333 l) (refl, refl)
+
+  pub return-done : length s ≡ 3333 → (t : List ℕ) → t ≡ replicate (length s) 0 → Gives (returnCall s) Done t
+  unfolding returnCall
+  return-done l t e = rw (eq-eqb (length s) 3333 l) (refl, e ∙ ap (λ n. replicate n 0) l)

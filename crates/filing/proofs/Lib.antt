@@ -1,0 +1,4 @@
+pub mod Marking
+pub mod Slots
+pub mod Bidder
+pub mod Numbers

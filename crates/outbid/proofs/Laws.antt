@@ -1,0 +1,170 @@
+-- The ways through steps 3 and 4, against the definition. Assumes nothing.
+use borrow.Author.Tests.{eqb-true, eqb-false, ltb-true}
+use mathlib.Core.Path.{_≡_, refl, sym, _∙_, ap, ap₂, subst}
+use mathlib.Core.Bool.{Bool, true, false, _&&_, not, cond}
+use mathlib.Core.List.{List}
+use Prim.Native.Nat.{ℕ, suc, _+_, _*_, _-_, _%_, _≤_, _<_}
+use native.Mathlib.Omega.{arith}
+use native.Mathlib.Nat.{add-zero}
+use lib.ListN.{getD, set, length}
+use lib.Seq.{getD-set-same, getD-set-other, set-getD}
+use lib.Dec.{ltb, eqb}
+use Rattle.rules.specs.declared.Tranches.{Tranches}
+use Rattle.rules.specs.declared.Pick.the-variants.{At, Nobody}
+use Rattle.rules.specs.declared.Place.{Place}
+use Rattle.rules.specs.Count.{never}
+use Rattle.rules.specs.Units.{tranches}
+use Rattle.rules.specs.Held.{deniedIn, retainedIn, exitIn}
+use Rattle.rules.specs.Accept.{nowhere, placeAt, changed, rowOf, riseOf, deem, outbidSwitch, outbidWithdrawal}
+use Rattle.rules.specs.Outbid.{deemIf, deemedUpTo, outbid, freed, deniedOne, retainedOne, outbidRetained, outbidBy, outbidStep}
+use Rattle.rules.proofs.Sums.{sum-ext, sum-one, best-found, first-stays, first-here, first-not}
+use Rattle.keep.specs.declared.Best.{Best}
+use Rattle.keep.specs.Search.{noted, higherOf}
+use Rattle.keep.specs.Room.{Fits, Room}
+use Rattle.keep.proofs.Laws.{higher-next, noted-who, room-set}
+use Rattle.outbid.specs.declared.Loss.{Loss}
+use Rattle.outbid.specs.Loss.{deniedOf, freeAt, Free, paid, Lost}
+
+-- ---- step 3
+
+fits-if : (t : Bool) (l : Place) → Fits l → Fits (cond t (deem l) l)
+fits-if true l f = record { outs = f .outs; switches = omega (arith, f .switches); rises = omega (arith, f .rises) }
+fits-if false l f = f
+
+pub fits-deem : (tick : Bool) (l : Place) → Fits l → Fits (deemIf tick l)
+fits-deem tick l f = fits-if (not tick && ltb 0 (riseOf l)) l f
+
+pub deemed-next : (tick : ℕ → Bool) (ps work : List Place) (k : ℕ) (x : Place) → work ≡ deemedUpTo tick ps k
+    → x ≡ deemIf (tick (k % 8)) (placeAt work k) → set work k x ≡ deemedUpTo tick ps (suc k)
+unfolding deemedUpTo
+deemed-next tick ps work k x e f =
+    ap (set work k) f ∙ ap (λ w. changed (deemIf (tick (k % 8))) w k) e
+
+-- ---- searches
+
+module _ (ps : List Place) (draw : ℕ → ℕ) (p : ℕ) where
+  abbrev pub retains : ℕ → Bool
+  retains i = ltb 0 (retainedIn (placeAt ps (draw i * 8 + p) .holds))
+
+  abbrev pub exits : ℕ → ℕ
+  exits i = exitIn (placeAt ps (draw i * 8 + p) .holds)
+
+  pub retained-next : (i b : ℕ) (best next : Best) → b ≡ draw i → best ≡ noted exits (retainedOne i draw ps p)
+      → next ≡ higherOf best i (ltb 0 (retainedIn (placeAt ps (b * 8 + p) .holds))) (exitIn (placeAt ps (b * 8 + p) .holds))
+      → next ≡ noted exits (retainedOne (suc i) draw ps p)
+  retained-next i b best next d e f =
+      f ∙ ap (λ b. higherOf best i (ltb 0 (retainedIn (placeAt ps (b * 8 + p) .holds))) (exitIn (placeAt ps (b * 8 + p) .holds))) d
+      ∙ ap (λ q. higherOf q i (retains i) (exits i)) e ∙ sym (higher-next retains exits (retainedOne i draw ps p) i)
+
+  pub retained-who : (n : ℕ) (best : Best) → best ≡ noted exits (retainedOne n draw ps p) → best .who ≡ retainedOne n draw ps p
+  retained-who n best e = ap (λ b. b .who) e ∙ noted-who retains exits (retainedOne n draw ps p)
+
+  pub retained-fits : (n i : ℕ) → retainedOne n draw ps p ≡ At i → (i < n) × (0 < retainedIn (placeAt ps (draw i * 8 + p) .holds))
+  retained-fits n i e = let f = best-found retains (λ i j. ltb (exits j) (exits i)) n i e in (f .0, ltb-true _ _ (f .1))
+
+  abbrev denies : ℕ → Bool
+  denies i = ltb 0 (deniedIn (placeAt ps (draw i * 8 + p) .holds))
+
+  pub denied-here : (n i : ℕ) → i < n → deniedOne i draw ps p ≡ Nobody → denies i ≡ true → deniedOne n draw ps p ≡ At i
+  denied-here n i l e h = first-stays denies (suc i) i n (first-here denies i e h) (omega arith)
+
+  pub denied-not : (i : ℕ) → deniedOne i draw ps p ≡ Nobody → denies i ≡ false → deniedOne (suc i) draw ps p ≡ Nobody
+  denied-not i e h = first-not denies i e h
+
+-- ---- what a bidder has denied, with the place of bidder b on product p stored anew
+
+module _ (ps : List Place) (R : Room ps) (b p : ℕ) (lb : b < 32) (lp : p < 8) (x : Place) where
+  row-here : rowOf deniedOf (set ps (b * 8 + p) x) b 8 + deniedOf (placeAt ps (b * 8 + p)) ≡ rowOf deniedOf ps b 8 + deniedOf x
+  row-here =
+      let i : b * 8 + p < length ps = omega (arith, R .long) in
+      let s = sum-one (λ i. deniedOf (placeAt (set ps (b * 8 + p) x) (b * 8 + i))) (λ i. deniedOf (placeAt ps (b * 8 + i))) p 8 lp
+      (λ i _ d. ap deniedOf (getD-set-other ps (b * 8 + p) (b * 8 + i) x nowhere (λ e. d (omega arith)))) in
+      let t = ap deniedOf (getD-set-same ps (b * 8 + p) x nowhere i) in
+      omega arith
+
+  row-there : (c : ℕ) → (c ≡ b → ⊥) → rowOf deniedOf (set ps (b * 8 + p) x) c 8 ≡ rowOf deniedOf ps c 8
+  row-there c d =
+      sum-ext (λ i. deniedOf (placeAt (set ps (b * 8 + p) x) (c * 8 + i))) (λ i. deniedOf (placeAt ps (c * 8 + i))) 8
+      (λ i l. ap deniedOf (getD-set-other ps (b * 8 + p) (c * 8 + i) x nowhere (λ e. d (omega arith))))
+
+  module _ (v : ℕ) (fs : List Tranches) (long : length fs ≡ 32) (F : Free fs ps) (e : v + deniedOf x ≡ deniedOf (placeAt ps (b * 8 + p))) where
+    free-by : (c : ℕ) → c < 32 → (t : Bool) → eqb c b ≡ t
+        → freeAt (set fs b (tranches (freeAt fs b + v))) c + rowOf deniedOf (set ps (b * 8 + p) x) c 8 ≤ 60000
+    free-by c l true f =
+        let i : b < length fs = omega arith in
+        let r = row-here in
+        let g = ap (λ x. x .0) (getD-set-same fs b (tranches (freeAt fs b + v)) (tranches 0) i) in
+        let w = F b lb in
+        rw (eqb-true c b f) (omega arith)
+    free-by c l false f =
+        let d = eqb-false c b f in
+        let g = ap (λ x. x .0) (getD-set-other fs b c (tranches (freeAt fs b + v)) (tranches 0) d) in
+        let r = row-there c d in
+        let w = F c l in
+        omega arith
+
+    -- what the bidder has no longer denied is what it has free
+    pub free-set : Free (set fs b (tranches (freeAt fs b + v))) (set ps (b * 8 + p) x)
+    free-set c l = free-by c l (eqb c b) refl
+
+-- nothing is freed
+unpaid : (fs : List Tranches) (b : ℕ) → set fs b (tranches (freeAt fs b + 0)) ≡ fs
+unpaid fs b = ap (λ x. set fs b (tranches x)) (add-zero (freeAt fs b)) ∙ set-getD fs b (tranches 0)
+
+-- ---- one tranche outbid
+
+module _ (n : ℕ) (draw : ℕ → ℕ) (ps : List Place) (R : Room ps) (p : ℕ) where
+  pub lost-none : deniedOne n draw ps p ≡ Nobody → retainedOne n draw ps p ≡ Nobody
+      → Lost n draw ps p (record { at = 0; place = placeAt ps 0; owner = 0; freed = 0; more = 0 })
+  lost-none e f =
+      let same = set-getD ps 0 nowhere in
+      record {
+        at = omega arith;
+        owner = omega arith;
+        freed = omega arith;
+        more = omega arith;
+        makes = λ fs c.
+            ap₂ (λ ps fs. outbid ps fs (c + 0)) same (unpaid fs 0) ∙ ap (outbid ps fs) (add-zero c)
+            ∙ sym (ap (λ q. outbidBy n draw q (outbid ps fs c) p) e ∙ ap (λ q. outbidRetained draw q (outbid ps fs c) p) f);
+        room = subst Room (sym same) R;
+        free = λ fs l F. subst (λ ps. Free (set fs 0 (tranches (freeAt fs 0 + 0))) ps) (sym same) (subst (λ fs. Free fs ps) (sym (unpaid fs 0)) F);
+      }
+
+  module _ (j b : ℕ) (x : Place) (d : b ≡ draw j) (lb : b < 32) (lp : p < 8) where
+    pub lost-retained : deniedOne n draw ps p ≡ Nobody → retainedOne n draw ps p ≡ At j → x ≡ outbidWithdrawal (placeAt ps (b * 8 + p))
+        → Lost n draw ps p (record { at = b * 8 + p; place = x; owner = b; freed = 0; more = 1 })
+    lost-retained e f g =
+        let F = R .each (b * 8 + p) in
+        let gone : Fits (outbidWithdrawal (placeAt ps (b * 8 + p))) =
+        record { outs = omega (arith, F .outs); switches = F .switches; rises = F .rises } in
+        let same = ap deniedOf g in
+        record {
+          at = omega arith;
+          owner = lb;
+          freed = omega arith;
+          more = omega arith;
+          makes = λ fs c.
+              ap₂ (λ ps fs. outbid ps fs (c + 1)) (ap (set ps (b * 8 + p)) g ∙ ap (λ b. changed outbidWithdrawal ps (b * 8 + p)) d) (unpaid fs b)
+              ∙ sym (ap (λ q. outbidBy n draw q (outbid ps fs c) p) e ∙ ap (λ q. outbidRetained draw q (outbid ps fs c) p) f);
+          room = room-set ps R (b * 8 + p) x (omega arith) (subst Fits (sym g) gone);
+          free = λ fs l E. free-set ps R b p lb lp x 0 fs l E (omega arith);
+        }
+
+    pub lost-switch : deniedOne n draw ps p ≡ At j → 0 < deniedOf (placeAt ps (b * 8 + p)) → x ≡ outbidSwitch (placeAt ps (b * 8 + p))
+        → Lost n draw ps p (record { at = b * 8 + p; place = x; owner = b; freed = 1; more = 1 })
+    lost-switch e some g =
+        let F = R .each (b * 8 + p) in
+        let gone : Fits (outbidSwitch (placeAt ps (b * 8 + p))) =
+        record { outs = F .outs; switches = omega (arith, F .switches); rises = F .rises } in
+        let less = ap deniedOf g in
+        record {
+          at = omega arith;
+          owner = lb;
+          freed = omega arith;
+          more = omega arith;
+          makes = λ fs c.
+              ap₂ (λ ps fs. outbid ps fs (c + 1)) (ap (set ps (b * 8 + p)) g ∙ ap (λ b. changed outbidSwitch ps (b * 8 + p)) d) (ap (freed fs) d)
+              ∙ sym (ap (λ q. outbidBy n draw q (outbid ps fs c) p) e);
+          room = room-set ps R (b * 8 + p) x (omega arith) (subst Fits (sym g) gone);
+          free = λ fs l E. free-set ps R b p lb lp x 1 fs l E (omega arith);
+        }

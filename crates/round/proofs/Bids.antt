@@ -1,0 +1,92 @@
+-- Step 1, and that the accepted bids leave room for all that follows. Assumes nothing.
+use mathlib.Core.Path.{_≡_, refl, sym, _∙_, ap₂, subst}
+use mathlib.Core.Bool.{Bool, true, false, cond}
+use mathlib.Core.List.{List}
+use Prim.Native.Nat.{ℕ, _+_, _-_, _*_, _/_, _%_, _≤_, _<_}
+use native.Mathlib.Omega.{arith}
+use native.Mathlib.Nat.{div-add-mod'}
+use borrow.Author.Tests.{eqb-true, ltb-true, ltb-false}
+use lib.ListN.{getD, length, List·getD-eq-default}
+use lib.Dec.{ltb, eqb}
+use Rattle.rules.specs.declared.Line.{Line}
+use Rattle.rules.specs.declared.Record.{Record}
+use Rattle.rules.specs.declared.Place.{Place}
+use Rattle.rules.specs.declared.Auction.{Auction}
+use Rattle.rules.specs.Count.{allUpTo, firstUpTo, isAt}
+use Rattle.rules.specs.Card.{noLine}
+use Rattle.rules.specs.Held.{goingIn, deniedIn, retainedIn, recordAt, place, ticked}
+use Rattle.rules.specs.Bid.{bidIn, withdrawnIn, recordOf, beforeAt, hasFiled, defaultLine, bidOn}
+use Rattle.rules.specs.Accept.{nowhere, placeAt, accepted, acceptedAll}
+use Rattle.rules.specs.Round.{drawn, drawFits}
+use Rattle.rules.proofs.Sums.{and-left, and-right}
+use Rattle.rules.proofs.Lists.{all-take, list-at, list-long}
+use Rattle.keep.specs.Room.{Fits, Room, Drawn, isOne}
+use Rattle.round.specs.Ready.{Small, Ticks}
+
+whole : (k : ℕ) → k ≡ place (k / 8) (k % 8)
+whole k = sym (div-add-mod' k 8)
+
+-- what stands at the place of a bidder on a product
+pub accepted-here : (a : Auction) (ticks : List ℕ) → Ticks ticks a → (k : ℕ) → k % 8 < 8 → (l : Line) (x : Place)
+    → l ≡ cond (hasFiled a (k / 8)) (getD (a .bids) k noLine) (defaultLine (isOne ticks (k % 8)) (beforeAt a (k % 8)) (recordAt (a .records) k))
+    → x ≡ accepted (recordAt (a .records) k) l → x ≡ accepted (recordOf a (k / 8) (k % 8)) (bidOn a (k / 8) (k % 8))
+accepted-here a ticks T k lt l x e f =
+    subst (λ l. x ≡ accepted (recordAt (a .records) k) l) e f
+    ∙ ap₂ (λ j t. accepted (recordAt (a .records) j)
+    (cond (hasFiled a (k / 8)) (getD (a .bids) j noLine) (defaultLine t (beforeAt a (k % 8)) (recordAt (a .records) j)))) (whole k) (T (k % 8) lt)
+
+-- ---- room
+
+Little : Line → Type 0
+Little l = (bidIn l ≤ 255) × (withdrawnIn l ≤ 255)
+
+little-default : (tick : Bool) (q : ℕ) (r : Record) → goingIn r ≤ 255 → Little (defaultLine tick q r)
+unfolding Little
+little-default true q r h = (omega arith, h)
+little-default false q r h = (h, omega arith)
+
+little-cond : (filed : Bool) (l m : Line) → Little l → Little m → Little (cond filed l m)
+little-cond true l m h k = h
+little-cond false l m h k = k
+
+fits-accepted : (r : Record) (l : Line) → goingIn r ≤ 255 → deniedIn r ≤ 255 → retainedIn r ≤ 255 → Little l → Fits (accepted r l)
+unfolding Little
+fits-accepted r l g d n s = record { outs = omega arith; switches = omega arith; rises = omega arith }
+
+module _ (a : Auction) (S : Small a) where
+  fits-place : (k : ℕ) → place (k / 8) (k % 8) < 256 → Fits (accepted (recordOf a (k / 8) (k % 8)) (bidOn a (k / 8) (k % 8)))
+  unfolding Little
+  fits-place k l =
+      let j = place (k / 8) (k % 8) in
+      fits-accepted (recordAt (a .records) j) (bidOn a (k / 8) (k % 8)) (S .going j l) (S .denied j l) (S .retained j l)
+      (little-cond (hasFiled a (k / 8)) (getD (a .bids) j noLine) (defaultLine (ticked a (k % 8)) (beforeAt a (k % 8)) (recordAt (a .records) j))
+      (S .bid j l, S .withdrawn j l) (little-default (ticked a (k % 8)) (beforeAt a (k % 8)) (recordAt (a .records) j) (S .going j l)))
+
+  room-by : (k : ℕ) (t : Bool) → ltb k 256 ≡ t → Fits (placeAt (acceptedAll a) k)
+  room-by k true e =
+      let l = ltb-true k 256 e in
+      subst Fits (sym (list-at (λ k. accepted (recordOf a (k / 8) (k % 8)) (bidOn a (k / 8) (k % 8))) nowhere 256 k l))
+      (fits-place k (subst (λ j. j < 256) (whole k) l))
+  room-by k false e =
+      let l = ltb-false k 256 e in
+      let long = list-long (λ k. accepted (recordOf a (k / 8) (k % 8)) (bidOn a (k / 8) (k % 8))) 256 in
+      subst Fits (sym (List·getD-eq-default (acceptedAll a) nowhere (omega (arith, long))))
+      (record { outs = omega arith; switches = omega arith; rises = omega arith })
+
+  pub room-accepted : Room (acceptedAll a)
+  room-accepted = record {
+    long = list-long (λ k. accepted (recordOf a (k / 8) (k % 8)) (bidOn a (k / 8) (k % 8))) 256;
+    each = λ k. room-by k (ltb k 256) refl;
+  }
+
+-- ---- the draw
+
+pub drawn-all : (n : ℕ) (order : List ℕ) → n ≤ 32 → drawFits n order ≡ true → Drawn n order
+drawn-all n order l e =
+    let t : Bool = allUpTo (λ b. isAt (firstUpTo (λ i. eqb (drawn order i) b) n)) n in
+    let r = and-right (eqb (length order) n) _ e in
+    record {
+      few = l;
+      long = eqb-true _ _ (and-left (eqb (length order) n) _ e);
+      range = λ i k. ltb-true _ _ (all-take (λ i. ltb (drawn order i) n) n (and-left (allUpTo (λ i. ltb (drawn order i) n) n) t r) i k);
+    }

@@ -1,0 +1,3 @@
+pub mod Bids
+pub mod Same
+pub mod Whole

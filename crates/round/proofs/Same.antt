@@ -1,0 +1,62 @@
+-- The steps see of the ticks only those of the products. Assumes nothing.
+use mathlib.Core.Path.{_≡_, refl, sym, _∙_, ap, ap₂}
+use mathlib.Core.Bool.{Bool, _&&_, not}
+use mathlib.Core.List.{List}
+use Prim.Native.Nat.{ℕ, zero, suc, _+_, _*_, _%_, _≤_, _<_}
+use native.Mathlib.Omega.{arith}
+use native.Mathlib.Nat.{mod-lt}
+use lib.Dec.{ltb}
+use lib.ListN.{replicate}
+use Rattle.rules.specs.declared.Pick.{Pick}
+use Rattle.rules.specs.declared.Pick.the-variants.{At, Nobody}
+use Rattle.rules.specs.declared.Place.{Place}
+use Rattle.rules.specs.declared.Kept.{Kept}
+use Rattle.rules.specs.declared.Outbid.{Outbid}
+use Rattle.rules.specs.Count.{firstUpTo}
+use Rattle.rules.specs.Held.{standing, below, above}
+use Rattle.rules.specs.Accept.{changed, column, heldOf, keptOf}
+use Rattle.rules.specs.Keep.{short, keepStep, kept, whileShort, keepLoop}
+use Rattle.rules.specs.Outbid.{deemIf, deemedUpTo, whileOver, outbidStep, over, outbidLoop}
+use Rattle.keep.proofs.Turn.{first-ext}
+
+while-short : (q : Pick) (f g : ℕ → Kept) (done : Kept) → ((p : ℕ) → f p ≡ g p) → whileShort q f done ≡ whileShort q g done
+while-short (At p) f g done h = h p
+while-short Nobody f g done h = refl
+
+while-over : (q : Pick) (f g : ℕ → Outbid) (done : Outbid) → ((p : ℕ) → f p ≡ g p) → whileOver q f done ≡ whileOver q g done
+while-over (At p) f g done h = h p
+while-over Nobody f g done h = refl
+
+module _ (tick other : ℕ → Bool) (same : (p : ℕ) → p < 8 → tick p ≡ other p) where
+  pub deemed-same : (ps : List Place) (k : ℕ) → deemedUpTo tick ps k ≡ deemedUpTo other ps k
+  unfolding deemedUpTo
+  deemed-same ps zero = refl
+  deemed-same ps (suc k) = ap₂ (λ t ps. changed (deemIf t) ps k) (same (k % 8) (mod-lt k (omega arith))) (deemed-same ps k)
+
+  module _ (m n : ℕ) (few : m ≤ 8) (target : ℕ → ℕ) (draw : ℕ → ℕ) where
+    first-short : (ps : List Place) → firstUpTo (short n target tick ps) m ≡ firstUpTo (short n target other ps) m
+    first-short ps =
+        first-ext (short n target tick ps) (short n target other ps) m
+        (λ p l. ap (λ t. t && below (standing (column heldOf ps p n) (target p))) (same p (omega arith)))
+
+    pub keep-same : (f : ℕ) (ps : List Place) (c : ℕ) → keepLoop m n target tick draw f ps c ≡ keepLoop m n target other draw f ps c
+    unfolding keepLoop
+    keep-same zero ps c = refl
+    keep-same (suc f) ps c =
+        ap (λ q. whileShort q (λ p. keepLoop m n target tick draw f (keepStep m n draw ps p) (c + 1)) (kept ps c)) (first-short ps)
+        ∙ while-short (firstUpTo (short n target other ps) m) (λ p. keepLoop m n target tick draw f (keepStep m n draw ps p) (c + 1))
+        (λ p. keepLoop m n target other draw f (keepStep m n draw ps p) (c + 1)) (kept ps c)
+        (λ p. keep-same f (keepStep m n draw ps p) (c + 1))
+
+    first-over : (ps : List Place) → firstUpTo (over n target tick ps) m ≡ firstUpTo (over n target other ps) m
+    first-over ps =
+        first-ext (over n target tick ps) (over n target other ps) m
+        (λ p l. ap (λ t. not t && (above (standing (column heldOf ps p n) (target p)) && ltb 0 (column keptOf ps p n))) (same p (omega arith)))
+
+    pub outbid-same : (f : ℕ) (s : Outbid) → outbidLoop m n target tick draw f s ≡ outbidLoop m n target other draw f s
+    unfolding outbidLoop
+    outbid-same zero s = refl
+    outbid-same (suc f) s =
+        ap (λ q. whileOver q (λ p. outbidLoop m n target tick draw f (outbidStep n draw s p)) s) (first-over (s .places))
+        ∙ while-over (firstUpTo (over n target other (s .places)) m) (λ p. outbidLoop m n target tick draw f (outbidStep n draw s p))
+        (λ p. outbidLoop m n target other draw f (outbidStep n draw s p)) s (λ p. outbid-same f (outbidStep n draw s p))
