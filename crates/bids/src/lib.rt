@@ -6,7 +6,7 @@ ghost use lib.Dec.{eqb};
 ghost use Rattle.rules.specs.Count.{sumUpTo, allUpTo};
 ghost use Rattle.rules.specs.Settings.{capOf};
 ghost use Rattle.rules.specs.Held.{goingIn, ticked, freeOf};
-ghost use Rattle.rules.specs.Bid.{bidIn, withdrawnIn, oneIf, reductions, increases, switches, withdrawals, overCap, wrongReduction, overEligible, wrongWithdrawn, wrongExit, increased, numbered, wellNumbered, wrongPriority, recordOf, priceAt, beforeAt, onProduct, judged, hasFiled, slotOf, bidOn};
+ghost use Rattle.rules.specs.Bid.{bidIn, withdrawnIn, oneIf, reductions, increases, switches, withdrawals, overCap, wrongReduction, overEligible, wrongWithdrawn, wrongExit, increased, numbered, wellNumbered, wrongPriority, recordOf, priceAt, beforeAt, onProduct, judged, hasFiled, slotOf};
 ghost use Rattle.held.specs.Counts.{Counts};
 ghost use Rattle.bidline.specs.Lines.{mayWithdraw, mayNumber};
 use rules::Auction;
@@ -376,17 +376,4 @@ pub fn slot(a: Auction, b: usize) -> [Line; 8]
         p += 1;
     }
     lines
-}
-
-// The bidder's bid on a product: its card's, or the default.
-pub fn bid_on(a: Auction, b: usize, p: usize) -> Line
-    requires { ⌜ Counts a × ((b < 32) × (p < 8)) ⌝ }
-    ensures { λ x. ⌜ x ≡ bidOn a b p ⌝ }
-{
-    let k = b * 8 + p;
-    if has_filed(a, b) {
-        return a.bids[k];
-    }
-    let tick = held::ticked(a, p);
-    bidline::default_line(tick, a.before[p], a.records[k])
 }

@@ -6,3 +6,4 @@ pub mod Falling
 pub mod Settling
 pub mod Useful
 pub mod Astray
+pub mod Saying

@@ -1,7 +1,7 @@
 -- "What the contracts have to settle": one outcome for every input, and the useless boxes shut out. Assumes nothing.
-use mathlib.Core.Path.{_≡_, refl, sym, _∙_}
+use mathlib.Core.Path.{_≡_, refl, sym, _∙_, ap}
 use mathlib.Core.Bool.{Bool, true, false, cond}
-use mathlib.Core.List.{List}
+use mathlib.Core.List.{List, [], _∷_}
 use Prim.Native.Nat.{ℕ}
 use native.Mathlib.Omega.{arith}
 use borrow.Author.Tests.{eqb-true}
@@ -16,7 +16,7 @@ use Rattle.rules.specs.declared.Calculation.the-variants as calculation
 use Rattle.rules.specs.declared.Reported.{Reported}
 use Rattle.rules.specs.declared.Awarded.{Awarded}
 use Rattle.rules.specs.declared.CardRead.{CardRead}
-use Rattle.rules.specs.Answers.{Outcome, outcome}
+use Rattle.rules.specs.Answers.{Outcome, outcome, said, calculationSaid}
 use Rattle.rules.specs.Held.{ticked}
 use Rattle.rules.specs.Round.{calculated}
 use Rattle.rules.specs.Layout.{loaded}
@@ -68,7 +68,7 @@ unique-write room n b r ls = leaves-one (writeCall room n b r ls)
 
 -- ---- the two counts
 
-module _ (s : List ℕ) (S : StandsIn s) (draw : List ℕ) (k o : ℕ) (d : calculateCall s draw .answer ≡ calculation.Done k o) where
+module _ (s : List ℕ) (S : StandsIn s) (draw : List ℕ) (k o : ℕ) (d : calculationSaid (calculateCall s draw .answer) ≡ said 0 (k ∷ o ∷ [])) where
   abbrev a : Auction
   a = loaded s
 
@@ -76,10 +76,15 @@ module _ (s : List ℕ) (S : StandsIn s) (draw : List ℕ) (k o : ℕ) (d : calc
   z = loaded (calculateCall s draw .bytes)
 
   accepted-by : (t : Bool) → eqb (calculateNumber s draw) 0 ≡ t
-      → cond t (calculationDone (calculated a draw)) (outcome (calculation.Refused (calculateNumber s draw)) s) .answer ≡ calculation.Done k o
+      → calculationSaid (cond t (calculationDone (calculated a draw)) (outcome (calculation.Refused (calculateNumber s draw)) s) .answer) ≡ said 0 (k ∷ o ∷ [])
       → (calculateNumber s draw ≡ 0) × (calculated a draw .kept ≡ k) × (calculated a draw .outbid ≡ o)
-  accepted-by true e f = (eqb-true _ 0 e, cc, cc)
-  accepted-by false e f = let x : _≡_ {A = ℕ} 0 1 = cc in absurd (let y : ⊥ = omega arith in y)
+  accepted-by true e f =
+      let v : _≡_ {A = List ℕ} (calculated a draw .kept ∷ calculated a draw .outbid ∷ []) (k ∷ o ∷ []) = ap (λ x. x .values) f in
+      (eqb-true _ 0 e, cc, cc)
+  accepted-by false e f =
+      let v : _≡_ {A = List ℕ} [] (k ∷ o ∷ []) = ap (λ x. x .values) f in
+      let x : _≡_ {A = ℕ} 0 1 = cc in
+      absurd (let y : ⊥ = omega arith in y)
 
   accepted : (calculateNumber s draw ≡ 0) × (calculated a draw .kept ≡ k) × (calculated a draw .outbid ≡ o)
   unfolding calculateCall

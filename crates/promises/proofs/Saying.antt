@@ -1,0 +1,96 @@
+-- What each call says: document 01's number, 0 where nothing is refused, and the values of its answer. Assumes nothing.
+use mathlib.Core.Path.{_≡_, refl}
+use mathlib.Core.Bool.{Bool, true, false, cond}
+use mathlib.Core.List.{List, [], _∷_}
+use Prim.Native.Nat.{ℕ, zero, suc}
+use lib.Dec.{eqb}
+use Rattle.rules.specs.declared.Line.{Line}
+use Rattle.rules.specs.declared.Settings.{Settings}
+use Rattle.rules.specs.declared.Calculated.{Calculated}
+use Rattle.rules.specs.declared.Calculation.the-variants as calculation
+use Rattle.rules.specs.declared.Count.the-variants as count
+use Rattle.rules.specs.declared.Reported.{Reported}
+use Rattle.rules.specs.declared.Awarded.{Awarded}
+use Rattle.rules.specs.Answers.{said, outcome, answerFrom, answerOf, countSaid, calculationSaid, reportSaid, awardSaid, phaseNumber, phaseOf}
+use Rattle.rules.specs.Held.{freeOf, excess}
+use Rattle.rules.specs.Report.{rangeOf, reportOn, reportRefused, resultOf, resultRefused}
+use Rattle.rules.specs.Round.{calculated}
+use Rattle.rules.specs.Layout.{loaded}
+use Rattle.rules.specs.Card.{writeNumber, writeCard}
+use Rattle.rules.specs.Calls.{openNumber, openCall, fileNumber, fileCall, countNumber, countCall, toFile, calculationDone, calculateNumber, calculateCall, reportNumber, reportCall, resultNumber, resultCall, returnNumber, returnCall, writeCall}
+use lib.ListN.{length}
+
+-- a number said with nothing beside it
+number-said : (n : ℕ) → answerOf (answerFrom n) ≡ said n []
+number-said zero = refl
+number-said (suc n) = refl
+
+-- open, file, return and write say their number
+pub open-said : (s : List ℕ) (x : Settings) → answerOf (openCall s x .answer) ≡ said (openNumber s x) []
+unfolding openCall
+open-said s x = number-said (openNumber s x)
+
+pub file-said : (s c : List ℕ) → answerOf (fileCall s c .answer) ≡ said (fileNumber s c) []
+unfolding fileCall
+file-said s c = number-said (fileNumber s c)
+
+pub return-said : (s : List ℕ) → answerOf (returnCall s .answer) ≡ said (returnNumber s) []
+unfolding returnCall
+return-said s = number-said (returnNumber s)
+
+pub write-said : (room : List ℕ) (n b r : ℕ) (ls : List Line)
+    → answerOf (writeCall room n b r ls .answer) ≡ said (writeNumber (length room) n b r ls) []
+unfolding writeCard
+write-said room n b r ls = number-said (writeNumber (length room) n b r ls)
+
+-- count says how many are still to file
+count-by : (t : Bool) (n m : ℕ) → countSaid (cond t (count.ToFile m) (count.Refused n)) ≡ cond t (said 0 (m ∷ [])) (said n [])
+count-by true n m = refl
+count-by false n m = refl
+
+pub count-said : (s : List ℕ)
+    → countSaid (countCall s) ≡ cond (eqb (countNumber s) 0) (said 0 (toFile (loaded s) ∷ [])) (said (countNumber s) [])
+unfolding countCall
+count-said s = count-by (eqb (countNumber s) 0) (countNumber s) (toFile (loaded s))
+
+-- calculate says the counts kept and outbid
+calculate-by : (t : Bool) (n : ℕ) (c : Calculated) (s : List ℕ)
+    → calculationSaid (cond t (calculationDone c) (outcome (calculation.Refused n) s) .answer)
+    ≡ cond t (said 0 (c .kept ∷ c .outbid ∷ [])) (said n [])
+calculate-by true n c s = refl
+calculate-by false n c s = refl
+
+pub calculate-said : (s draw : List ℕ)
+    → calculationSaid (calculateCall s draw .answer)
+    ≡ cond (eqb (calculateNumber s draw) 0)
+    (said 0 (calculated (loaded s) draw .kept ∷ calculated (loaded s) draw .outbid ∷ []))
+    (said (calculateNumber s draw) [])
+unfolding calculateCall
+calculate-said s draw = calculate-by (eqb (calculateNumber s draw) 0) (calculateNumber s draw) (calculated (loaded s) draw) s
+
+-- report says f, the phase and the range
+report-by : (t : Bool) (n : ℕ) (r : Reported)
+    → reportSaid (cond t r (reportRefused n) .report) ≡ cond t (reportSaid (r .report)) (said n [])
+report-by true n r = refl
+report-by false n r = refl
+
+pub report-said : (s : List ℕ) (b : ℕ)
+    → reportSaid (reportCall s b .report)
+    ≡ cond (eqb (reportNumber s b) 0)
+    (said 0 (
+    freeOf (loaded s) b
+        ∷ phaseNumber (phaseOf (loaded s .phase)) ∷ rangeOf (excess (loaded s)) .low ∷ rangeOf (excess (loaded s)) .high ∷ []))
+    (said (reportNumber s b) [])
+unfolding reportCall reportOn
+report-said s b = report-by (eqb (reportNumber s b) 0) (reportNumber s b) (reportOn (loaded s) b)
+
+-- result says its number, and the awards and prices stand beside it
+result-by : (t : Bool) (n : ℕ) (r : Awarded)
+    → awardSaid (cond t r (resultRefused n) .award) ≡ cond t (awardSaid (r .award)) (said n [])
+result-by true n r = refl
+result-by false n r = refl
+
+pub result-said : (s : List ℕ)
+    → awardSaid (resultCall s .award) ≡ cond (eqb (resultNumber s) 0) (said 0 []) (said (resultNumber s) [])
+unfolding resultCall resultOf
+result-said s = result-by (eqb (resultNumber s) 0) (resultNumber s) (resultOf (loaded s))
