@@ -4,8 +4,8 @@ use mathlib.Core.Bool.{Bool, true, false, cond}
 use Prim.Native.Nat.{ℕ, zero, suc, _-_, _≤_, _<_, zero-le}
 use native.Mathlib.Omega.{arith}
 use native.Mathlib.Nat.{add-zero, sub-zero}
-use borrow.Author.Tests.{le-ltb, ltb-false}
-use lib.Dec.{T, ltb}
+use borrow.Author.Tests.{le-ltb, ltb-true, ltb-false, eqb-true, eqb-false, eq-eqb, ne-eqb}
+use lib.Dec.{T, ltb, eqb}
 use lib.IntN.{ℤ, pos, negsuc, natAbs, subℕ, _-ℤ_}
 use lib.Signed.{mag, ltZ, nonNeg, natAbs-le}
 use mir.Syntax.{w32}
@@ -65,3 +65,18 @@ module _ (z : ℤ) (f : mag z < 2147483648) where
 
   pub not-above : ltZ (pos 0) (toZ w32 (ofZ w32 z)) ≡ false → 0 ≡ aboveZero z
   not-above e = no-sign z (rw back at e)
+
+same-by : (a b : ℕ) → b ≤ a → (u : Bool) → eqb a b ≡ u → eqb (a - b) 0 ≡ u
+same-by a b h true e = let q = eqb-true a b e in eq-eqb (a - b) 0 (omega arith)
+same-by a b h false e = let q = eqb-false a b e in ne-eqb (a - b) 0 (λ z. q (omega arith))
+
+zero-by : (a b : ℕ) (t : Bool) → ltb a b ≡ t → mag (cond t (negsuc (b - suc a)) (pos (a - b))) < 2147483648
+    → eqb (ofZ w32 (cond t (negsuc (b - suc a)) (pos (a - b)))) 0 ≡ eqb a b
+zero-by a b true e f =
+    let l = ltb-true a b e in
+    ne-eqb (4294967296 - suc (b - suc a)) 0 (λ z. omega arith) ∙ sym (ne-eqb a b (λ z. omega arith))
+zero-by a b false e f = let l = ltb-false a b e in same-by a b l (eqb a b) refl
+
+-- the bits of a difference are 0 exactly where the two numbers are the same
+pub zero-is : (a b : ℕ) → mag (subℕ a b) < 2147483648 → eqb (ofZ w32 (subℕ a b)) 0 ≡ eqb a b
+zero-is a b f = zero-by a b (ltb a b) refl f

@@ -89,6 +89,14 @@ pub fn ticked(a: Auction, p: usize) -> bool
     standing(a, p) > 0
 }
 
+// The exact case: as much is held as the target.
+pub fn met(a: Auction, p: usize) -> bool
+    requires { ⌜ Counts a × (p < 8) ⌝ }
+    ensures { λ r. ⌜ r ≡ eqb (held (a .records) (a .terms .bidders) p) (targetOf (a .terms) p) ⌝ }
+{
+    standing(a, p) == 0
+}
+
 // A standing above zero as a number, and 0 for any other.
 fn surplus(a: Auction, p: usize) -> u32
     requires { ⌜ Counts a × (p < 8) ⌝ }

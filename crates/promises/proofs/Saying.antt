@@ -79,7 +79,7 @@ pub report-said : (s : List ℕ) (b : ℕ)
     ≡ cond (eqb (reportNumber s b) 0)
     (said 0 (
     freeOf (loaded s) b
-        ∷ phaseNumber (phaseOf (loaded s .phase)) ∷ rangeOf (excess (loaded s)) .low ∷ rangeOf (excess (loaded s)) .high ∷ []))
+    ∷ phaseNumber (phaseOf (loaded s .phase)) ∷ rangeOf (excess (loaded s)) .low ∷ rangeOf (excess (loaded s)) .high ∷ []))
     (said (reportNumber s b) [])
 unfolding reportCall reportOn
 report-said s b = report-by (eqb (reportNumber s b) 0) (reportNumber s b) (reportOn (loaded s) b)

@@ -58,9 +58,7 @@ fn kept_where_met(a: Auction, p: usize) -> bool
     if a.price[p] >= a.before[p] {
         return false;
     }
-    let t = a.terms;
-    let item = t.item[p];
-    held::held(a, p) == item.target.0 as u32
+    held::met(a, p)
 }
 
 fn product_stands(a: Auction, p: usize) -> bool

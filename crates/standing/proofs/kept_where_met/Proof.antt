@@ -27,23 +27,14 @@ returns-2 c =
     let k = c .before .before .before .before .kept-on in
     rw (← k .ensures .0, lt-ltb 0 (k .result) (omega arith), le-ltb _ _ (c .if2 .taken))
 
-mul-item : tie.Need-mul-item
-mul-item c = search needs
-
-element-copy-out-item : tie.Need-element-copy-out-item
-element-copy-out-item c = search needs
-
-held-requires : tie.Need-held-requires
-held-requires c κs = search needs
-
-cast-result : tie.Need-cast-result
-cast-result c = search needs
+met-requires : tie.Need-met-requires
+met-requires c κs = search needs
 
 returns-3 : tie.Need-returns-3
 returns-3 c =
-    let d = c .before .before .before .before in
+    let d = c .before in
     let k = d .before .before .before .before .kept-on in
-    rw (← k .ensures .0, lt-ltb 0 (k .result) (omega arith), lt-ltb _ _ (d .if2 .left), c .before .held .ensures .0)
+    rw (← k .ensures .0, lt-ltb 0 (k .result) (omega arith), lt-ltb _ _ (d .if2 .left), c .met .ensures)
 
 pub kept-where-met-spec : {M : Type 1} → statement M
 kept-where-met-spec =
@@ -56,8 +47,5 @@ kept-where-met-spec =
     mul-if2-2
     element-copy-out-if2-2
     returns-2
-    mul-item
-    element-copy-out-item
-    held-requires
-    cast-result
+    met-requires
     returns-3)
