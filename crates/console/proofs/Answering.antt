@@ -1,10 +1,9 @@
 -- A call's number as its answer and its bytes. Assumes nothing.
-use mathlib.Core.Path.{_≡_, refl, sym}
+use mathlib.Core.Path.{_≡_, refl}
 use mathlib.Core.Bool.{cond}
 use mathlib.Core.List.{List}
 use Prim.Native.Nat.{ℕ, zero, suc}
-use native.Mathlib.Omega.{arith}
-use borrow.Author.Tests.{eq-eqb, ne-eqb}
+use borrow.Author.Tests.{ne-eqb}
 use lib.Dec.{eqb}
 use Rattle.rules.specs.declared.Answer.the-variants.{Done, Refused}
 use Rattle.rules.specs.Answers.{Outcome, answerFrom, unlessRefused}
@@ -26,8 +25,8 @@ pub does : (n k : ℕ) (new old s : List ℕ) → n ≡ k → n ≡ 0 → s ≡ 
 does n k new old s e z h = rw (← e, z) (refl, h)
 
 -- an answer of its own, or the number
-pub refuses-with : {A : Type 0} (n k : ℕ) (done : A) (no : ℕ → A) → n ≡ k → (n ≡ 0 → ⊥) → no n ≡ cond (eqb k 0) done (no k)
-refuses-with n k done no e h = rw (← e, ne-eqb n 0 h)
+pub refuses-with : {A : Type 0} (n k : ℕ) (done : A) (say : ℕ → A) → n ≡ k → (n ≡ 0 → ⊥) → say n ≡ cond (eqb k 0) done (say k)
+refuses-with n k done say e h = rw (← e, ne-eqb n 0 h)
 
-pub answers-with : {A : Type 0} (n k : ℕ) (done : A) (no : ℕ → A) (a : A) → n ≡ k → n ≡ 0 → a ≡ done → a ≡ cond (eqb k 0) done (no k)
-answers-with n k done no a e z h = rw (← e, z) h
+pub answers-with : {A : Type 0} (n k : ℕ) (done : A) (say : ℕ → A) (a : A) → n ≡ k → n ≡ 0 → a ≡ done → a ≡ cond (eqb k 0) done (say k)
+answers-with n k done say a e z h = rw (← e, z) h

@@ -1,12 +1,11 @@
 -- No more bidders have filed than there are. Assumes nothing.
-use mathlib.Core.Path.{_≡_, refl, sym, _∙_, ap, subst}
+use mathlib.Core.Path.{_≡_, refl, sym, subst}
 use mathlib.Core.Bool.{Bool, true, false}
-use Prim.Native.Nat.{ℕ, zero, suc, _+_, _-_, _*_, _/_, _%_, _^_, _≤_, _<_}
+use Prim.Native.Nat.{ℕ, zero, suc, _+_, _-_, _/_, _%_, _^_, _≤_, _<_}
 use native.Mathlib.Nat.{div-lt-iff-lt-mul, one-mul, add-zero}
 use native.Mathlib.Omega.{arith}
 use borrow.Author.Tests.{eqb-false}
 use lib.Count.{ones, ones-le}
-use lib.Dec.{eqb}
 use lib.Pow.{pow-pos, shr-lt}
 use Rattle.rules.specs.declared.Auction.{Auction}
 use Rattle.rules.specs.Bid.{hasFiled}

@@ -3,3 +3,4 @@ pub mod StateLaws
 pub mod Counting
 pub mod Opening
 pub mod Fitting
+pub mod Rounds

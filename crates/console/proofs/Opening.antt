@@ -8,7 +8,7 @@ use lib.ListN.{length, replicate}
 use Rattle.rules.specs.declared.Answer.the-variants.{Done, Refused}
 use Rattle.rules.specs.declared.Settings.{Settings}
 use Rattle.rules.specs.Settings.{settingsFit, termsOf}
-use Rattle.rules.specs.Layout.{stateLength, stored, allZero}
+use Rattle.rules.specs.Layout.{stored, allZero}
 use Rattle.rules.specs.Calls.{opened, openCall, returnCall}
 use Rattle.console.proofs.Answering.{Gives}
 

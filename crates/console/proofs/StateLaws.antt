@@ -32,9 +32,9 @@ passed true false true w x h e = (refl, (refl, (refl, e)))
 passed true false false w x h e = absurd (let z : ⊥ = omega arith in z)
 passed false u v w x h e = absurd (let z : ⊥ = omega arith in z)
 
-pub stood-by : (s : List ℕ) (w : ℕ) (f : Auction → ℕ) → 0 < w → ofState s w f ≡ 0 → Stood s × (f (loaded s) ≡ 0)
-stood-by s w f h e =
-    let p = passed (eqb (length s) stateLength) (allZero s) (stands (loaded s)) w (f (loaded s)) h e in (
+pub stood-by : (s : List ℕ) (w : ℕ) (f : Auction → ℕ) → 0 < w → (n : ℕ) → n ≡ ofState s w f → n ≡ 0 → Stood s × (f (loaded s) ≡ 0)
+stood-by s w f h n e z =
+    let p = passed (eqb (length s) stateLength) (allZero s) (stands (loaded s)) w (f (loaded s)) h (sym e ∙ z) in (
       record {
         long = eqb-true (length s) 3333 (p .0);
         stood = stands-take (loaded s) (p .1 .1 .0);
@@ -45,7 +45,7 @@ stood-by s w f h e =
 
 -- 0: the state stands
 pub standing : (s : List ℕ) (n : ℕ) → n ≡ stateNumber s → n ≡ 0 → Stood s
-standing s n e z = stood-by s 3 (λ a. 0) (omega arith) (sym e ∙ z) .0
+standing s n e z = stood-by s 3 (λ a. 0) (omega arith) n e z .0
 
 refused-by : (t u v : Bool) (w x : ℕ) → (number t u v 3 0 ≡ 0 → ⊥) → (number t u v 3 0 ≡ 3 → w ≡ 3) → number t u v 3 0 ≡ number t u v w x
 refused-by true true v w x h g = sym (g refl)

@@ -1,10 +1,11 @@
 // The console: document 01's calls on lent bytes, and nothing else. Each call's contract is its one definition in the crate rules,
 // specs/Calls.antt: its answer and every byte that it may write, for every input.
 ghost use mathlib.Core.Path.{_≡_};
-ghost use Rattle.rules.specs.Calls.{openCall, fileNumber, fileCall, countNumber, countCall, reportNumber, reportCall, resultNumber, resultCall, returnCall, readCall, writeCall};
+ghost use Rattle.rules.specs.Calls.{openCall, fileNumber, fileCall, countNumber, countCall, calculateNumber, calculateCall, reportNumber, reportCall, resultNumber, resultCall, returnCall, readCall, writeCall};
 ghost use Rattle.console.specs.State.{stateNumber};
 use rules::Answer;
 use rules::Awarded;
+use rules::Calculation;
 use rules::CardRead;
 use rules::Count;
 use rules::Line;
@@ -92,6 +93,40 @@ pub fn count(s: &[u8]) -> Count
     }
     let a = state::load(s);
     Count::ToFile(a.terms.bidders as u32 - u32::count_ones(a.filed))
+}
+
+fn calculate_number(s: &[u8], draw: &[u8]) -> u8
+    ensures { λ r. ⌜ r ≡ calculateNumber (now (s .entry)) (now (draw .entry)) ⌝ }
+{
+    let n = state_number(s);
+    if n != 0 {
+        return n;
+    }
+    let a = state::load(s);
+    if a.phase != 1 {
+        return 3;
+    }
+    if settings::draw_fits(draw, a.terms.bidders as usize) {
+        return 0;
+    }
+    14
+}
+
+// Calculate a round: 1, 2, 3, 14.
+pub fn calculate(s: &mut [u8], draw: &[u8]) -> Calculation
+    ensures { λ r. ⌜ (r ≡ calculateCall (now (s .entry)) (now (draw .entry)) .answer) × (now (s .exit) ≡ calculateCall (now (s .entry)) (now (draw .entry)) .bytes) ⌝ }
+{
+    let n = calculate_number(s, draw);
+    if n != 0 {
+        return Calculation::Refused(n);
+    }
+    let done = round::calculate(state::load(s), draw);
+    let a = done.auction;
+    state::store(a, s);
+    Calculation::Done {
+        kept: done.kept,
+        outbid: done.outbid,
+    }
 }
 
 fn report_number(s: &[u8], bidder: u8) -> u8

@@ -14,7 +14,6 @@ use Rattle.rules.specs.declared.Place.{Place}
 use Rattle.rules.specs.Count.{pickIf, better, sumUpTo}
 use Rattle.rules.specs.Accept.{nowhere, placeAt, changed, column, heldOf, leavingOf, movingOf, riseOf, retain, deny, cancel}
 use Rattle.rules.proofs.Sums.{sum-ext, sum-one, sum-ge}
-use Rattle.keep.specs.declared.Best.{Best}
 use Rattle.keep.specs.Search.{found, nobody, noted, lowerOf, higherOf}
 use Rattle.keep.specs.Room.{Fits, Room}
 use Rattle.keep.specs.Step.{Booked}

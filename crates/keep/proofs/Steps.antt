@@ -1,6 +1,6 @@
 -- The ways through one step, against the definition. Assumes nothing.
 use borrow.Author.Tests.{ltb-true}
-use mathlib.Core.Path.{_≡_, refl, sym, _∙_, ap, subst}
+use mathlib.Core.Path.{_≡_, sym, _∙_, ap, subst}
 use mathlib.Core.Bool.{Bool, true, false}
 use mathlib.Core.List.{List}
 use Prim.Native.Nat.{ℕ, suc, _+_, _*_, _-_, _≤_, _<_}
@@ -10,7 +10,6 @@ use lib.Seq.{set-set, set-getD}
 use lib.Dec.{ltb}
 use Rattle.rules.specs.declared.Pick.the-variants.{At, Nobody}
 use Rattle.rules.specs.declared.Place.{Place}
-use Rattle.rules.specs.Count.{never}
 use Rattle.rules.specs.Accept.{nowhere, placeAt, changed, leavingOf, leavingAt, movingOf, riseOf, retain, deny, cancel}
 use Rattle.rules.specs.Keep.{leaver, mover, risen, cancelBy, denyAt, keepMover, keepBy, keepStep}
 use Rattle.rules.proofs.Sums.{best-found, first-stays, first-here, first-not}

@@ -101,7 +101,7 @@ pub fn standing_of(held: u32, target: u16) -> i32
     held as i32 - target as i32
 }
 
-pub fn is_below(standing: i32) -> bool
+fn is_below(standing: i32) -> bool
     ensures { λ r. ⌜ r ≡ below standing ⌝ }
 {
     standing < 0
@@ -206,14 +206,14 @@ fn one_less(held: [u32; 8], p: usize) -> [u32; 8]
 }
 
 // What stands at one place after a change, and what is then held of each product.
-pub struct Change {
+struct Change {
     pub at: usize,
     pub place: Place,
     pub held: [u32; 8],
 }
 
 // What stands at two places after a tranche is kept, and what is then held of each product.
-pub struct Step {
+struct Step {
     pub first: usize,
     pub one: Place,
     pub second: usize,
@@ -249,8 +249,12 @@ fn cancel_one(
     let at = b * 8 + c;
     let l = places[at];
     let place = l.cancel();
-    let h = one_less(held, c);
-    Change { at, place, held: h }
+    let fewer = one_less(held, c);
+    Change {
+        at,
+        place,
+        held: fewer,
+    }
 }
 
 // "A denied switch cancels one increase of that bidder"

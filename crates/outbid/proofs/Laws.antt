@@ -3,27 +3,25 @@ use borrow.Author.Tests.{eqb-true, eqb-false, ltb-true}
 use mathlib.Core.Path.{_≡_, refl, sym, _∙_, ap, ap₂, subst}
 use mathlib.Core.Bool.{Bool, true, false, _&&_, not, cond}
 use mathlib.Core.List.{List}
-use Prim.Native.Nat.{ℕ, suc, _+_, _*_, _-_, _%_, _≤_, _<_}
+use Prim.Native.Nat.{ℕ, suc, _+_, _*_, _%_, _≤_, _<_}
 use native.Mathlib.Omega.{arith}
 use native.Mathlib.Nat.{add-zero}
-use lib.ListN.{getD, set, length}
+use lib.ListN.{set, length}
 use lib.Seq.{getD-set-same, getD-set-other, set-getD}
 use lib.Dec.{ltb, eqb}
 use Rattle.rules.specs.declared.Tranches.{Tranches}
 use Rattle.rules.specs.declared.Pick.the-variants.{At, Nobody}
 use Rattle.rules.specs.declared.Place.{Place}
-use Rattle.rules.specs.Count.{never}
 use Rattle.rules.specs.Units.{tranches}
 use Rattle.rules.specs.Held.{deniedIn, retainedIn, exitIn}
 use Rattle.rules.specs.Accept.{nowhere, placeAt, changed, rowOf, riseOf, deem, outbidSwitch, outbidWithdrawal}
-use Rattle.rules.specs.Outbid.{deemIf, deemedUpTo, outbid, freed, deniedOne, retainedOne, outbidRetained, outbidBy, outbidStep}
+use Rattle.rules.specs.Outbid.{deemIf, deemedUpTo, outbid, freed, deniedOne, retainedOne, outbidRetained, outbidBy}
 use Rattle.rules.proofs.Sums.{sum-ext, sum-one, best-found, first-stays, first-here, first-not}
 use Rattle.keep.specs.declared.Best.{Best}
 use Rattle.keep.specs.Search.{noted, higherOf}
 use Rattle.keep.specs.Room.{Fits, Room}
 use Rattle.keep.proofs.Laws.{higher-next, noted-who, room-set}
-use Rattle.outbid.specs.declared.Loss.{Loss}
-use Rattle.outbid.specs.Loss.{deniedOf, freeAt, Free, paid, Lost}
+use Rattle.outbid.specs.Loss.{deniedOf, freeAt, Free, Lost}
 
 -- ---- step 3
 

@@ -1,5 +1,5 @@
 -- The loop of step 4: what is left gives the same answer after every tranche outbid. Assumes nothing.
-use mathlib.Core.Path.{_≡_, refl, sym, _∙_, ap, subst}
+use mathlib.Core.Path.{_≡_, refl, sym, _∙_, ap}
 use mathlib.Core.Bool.{Bool}
 use mathlib.Core.List.{List}
 use Prim.Native.Nat.{ℕ, zero, suc, _+_, _-_, _*_, _≤_, _<_}
@@ -13,7 +13,7 @@ use Rattle.rules.specs.declared.Outbid.{Outbid}
 use Rattle.rules.specs.Count.{sumUpTo, firstUpTo, never}
 use Rattle.rules.specs.Units.{tranches}
 use Rattle.rules.specs.Settings.{targetOf}
-use Rattle.rules.specs.Accept.{placeAt, rowOf, every, keptOf}
+use Rattle.rules.specs.Accept.{placeAt, every, keptOf}
 use Rattle.rules.specs.Outbid.{outbid, whileOver, outbidStep, over, outbidLoop, outbidAll}
 use Rattle.rules.specs.Round.{drawn}
 use Rattle.rules.proofs.Sums.{best-found}

@@ -98,7 +98,7 @@ fn first_over(places: [Place; 256], t: Terms, ticks: [u8; 8]) -> Pick
 }
 
 // What one outbid tranche changes: a place, its owner's free eligibility, and the count.
-pub struct Loss {
+struct Loss {
     pub at: usize,
     pub place: Place,
     pub owner: usize,
@@ -117,7 +117,8 @@ fn lose_retained(places: [Place; 256], order: &[u8], p: usize, bidders: usize) -
         let b = keep::bidder_at(order, i, bidders);
         let k = b * 8 + p;
         let l = places[k];
-        best = best.higher(i, 0 < l.holds.retained.count.0, l.holds.retained.exit);
+        let exit = l.holds.retained.exit;
+        best = best.higher(i, 0 < l.holds.retained.count.0, exit);
         i += 1;
     }
     let who = best.who;
@@ -135,11 +136,13 @@ fn lose_retained(places: [Place; 256], order: &[u8], p: usize, bidders: usize) -
     let at = b * 8 + p;
     let l = places[at];
     let place = l.outbid_withdrawal();
+    // "An outbid withdrawal is gone."
+    let freed = 0;
     Loss {
         at,
         place,
         owner: b,
-        freed: 0,
+        freed,
         more: 1,
     }
 }

@@ -230,15 +230,18 @@ fn onward(a: Auction) -> Auction
     next
 }
 
+// "If it is 0 the auction is closed. Otherwise, .. it is stopped. Otherwise prices fall and the next round opens."
 fn settle(a: Auction, o: Outbid) -> Auction
     requires { ⌜ Counts a × ((a .terms .rows ≤ 8) × (a .round ≤ 4095)) ⌝ }
     ensures { λ r. ⌜ r ≡ settled a o ⌝ }
 {
     let rest = at_rest(2, a, o);
-    if held::excess(rest) == 0 {
+    let excess = held::excess(rest);
+    let stops = held::stops(rest);
+    if excess == 0 {
         return rest;
     }
-    if held::stops(rest) {
+    if stops {
         return at_rest(3, a, o);
     }
     onward(rest)

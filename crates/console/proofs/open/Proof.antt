@@ -1,64 +1,55 @@
+use Rattle.rules.specs.Layout.{stored}
+use Rattle.rules.specs.Calls.{opened}
 use mathlib.Core.Path.{sym, _∙_, ap}
 use borrow.Author.Tests.{not-true, not-false}
 use Rattle.console.proofs.Opening.{open-1, open-17, open-15, open-done}
 use borrow.Author.Needs.{needs}
 use Rattle.console.proofs.open.Statement.{statement}
 use Rattle.console.proofs.open.Tie as tie
-use Rattle.console.proofs.open.Reads as reads
-use Rattle.console.proofs.open.Lts as lts
-use Rattle.settings.proofs.opened.Reads as opened-reads
-use Rattle.settings.proofs.settings_fit.Reads as settings-fit-reads
-use Rattle.settings.proofs.terms_of.Reads as terms-of-reads
-use Rattle.state.proofs.is_zero.Reads as is-zero-reads
-use Rattle.state.proofs.store.Reads as store-reads
 
--- src/lib.rt:12:9
 returns : tie.Need-returns
 returns c = open-1 _ _ (search needs)
 
--- src/lib.rt:14:9
 is-zero-requires : tie.Need-is-zero-requires
 is-zero-requires c κs = search needs
 
--- src/lib.rt:15:9
 same-length : tie.Need-same-length
 same-length c = search needs
 
--- src/lib.rt:15:9
 returns-2 : tie.Need-returns-2
-returns-2 c = ?
+returns-2 c = open-17 _ _ (search needs) (sym (c .before .is-zero .ensures) ∙ not-true _ (c .if2 .taken))
 
--- src/lib.rt:17:9
 settings-fit-requires : tie.Need-settings-fit-requires
 settings-fit-requires c κs = search needs
 
--- src/lib.rt:18:9
 same-length-2 : tie.Need-same-length-2
 same-length-2 c = search needs
 
--- src/lib.rt:18:9
 returns-3 : tie.Need-returns-3
-returns-3 c = ?
+returns-3 c =
+    let d = c .before .before in
+    open-15 _ _ (search needs) (sym (d .before .is-zero .ensures) ∙ not-false _ (d .if2 .left))
+    (sym (c .before .settings-fit .ensures) ∙ not-true _ (c .if3 .taken))
 
--- src/lib.rt:20:9
 terms-of-requires : tie.Need-terms-of-requires
 terms-of-requires c κs = search needs
 
--- src/lib.rt:21:18
 opened-requires : tie.Need-opened-requires
 opened-requires c κs = search needs
 
--- src/lib.rt:21:5
 store-requires : tie.Need-store-requires
 store-requires c κs = search needs
 
--- src/lib.rt:8:1
 same-length-3 : tie.Need-same-length-3
 same-length-3 c = search needs
 
--- src/lib.rt:8:1
 returns-4 : tie.Need-returns-4
-returns-4 c = ?
+returns-4 c =
+    let e = c .before .before .before .before .before .before in
+    let d = e .before .before in
+    open-done _ _ (search needs) (sym (d .before .is-zero .ensures) ∙ not-false _ (d .if2 .left))
+    (sym (e .before .settings-fit .ensures) ∙ not-false _ (e .if3 .left)) _
+    (c .before .before .store .ensures ∙ ap stored (c .before .before .before .before .opened .ensures ∙ ap opened (c .before .before .before .before .before .terms-of .ensures)))
 
 pub open-spec : {M : Type 1} → statement M
 open-spec =

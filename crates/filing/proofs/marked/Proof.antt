@@ -3,42 +3,31 @@ use Rattle.filing.proofs.Marking.{one-some, above-small, is-marked, mar
 use borrow.Author.Needs.{needs}
 use Rattle.filing.proofs.marked.Statement.{statement}
 use Rattle.filing.proofs.marked.Tie as tie
-use Rattle.filing.proofs.marked.Reads as reads
-use Rattle.filing.proofs.marked.Lts as lts
 
--- src/lib.rt:58:15
 shl-one : tie.Need-shl-one
 shl-one c = search needs
 
--- src/lib.rt:60:7
 div-result : tie.Need-div-result
 div-result c = one-some (c .args .b) (c .pre)
 
--- src/lib.rt:60:7
 mul-result : tie.Need-mul-result
 mul-result c = omega (arith, above-small (c .args .filed) (c .args .b) (c .fits .filed .fits) (c .pre))
 
--- src/lib.rt:60:7
 add-result : tie.Need-add-result
 add-result c = omega (arith, above-small (c .args .filed) (c .args .b) (c .fits .filed .fits) (c .pre))
 
--- src/lib.rt:60:6
 mul-result-2 : tie.Need-mul-result-2
 mul-result-2 c = omega (arith, mark-small (c .args .filed) (c .args .b) (c .fits .filed .fits) (c .pre))
 
--- src/lib.rt:60:36
 rem-result : tie.Need-rem-result
 rem-result c = one-some (c .args .b) (c .pre)
 
--- src/lib.rt:60:6
 add-result-2 : tie.Need-add-result-2
 add-result-2 c = omega (arith, mark-small (c .args .filed) (c .args .b) (c .fits .filed .fits) (c .pre))
 
--- src/lib.rt:60:5
 cast-result : tie.Need-cast-result
 cast-result c = omega (arith, mark-small (c .args .filed) (c .args .b) (c .fits .filed .fits) (c .pre))
 
--- src/lib.rt:54:1
 returns : tie.Need-returns
 returns c = is-marked (c .args .filed) (c .args .b) (c .fits .filed .fits) (c .pre)
 

@@ -1,58 +1,58 @@
-use Rattle.keep.proofs.Steps.{denied-planned, denied-booked}
-use Rattle.keep.proofs.Laws.{held-at}
-use native.Mathlib.Nat.{le-antisymm}
-use native.Mathlib.Numerals.{add-one}
-use mathlib.Core.Path.{_≡_, refl, sym, _∙_, ap, subst}
-use Prim.Native.Nat.{ℕ, suc, _+_, _≤_, _<_, _*_, _-_}
+use Prim.Native.Nat.{_+_, _*_}
 use native.Mathlib.Omega.{arith}
 use borrow.Author.Needs.{needs}
+use Rattle.keep.proofs.Laws.{held-at}
+use Rattle.keep.proofs.Steps.{denied-planned, denied-booked}
 use Rattle.keep.proofs.deny_step.Statement.{statement}
 use Rattle.keep.proofs.deny_step.Tie as tie
-use Rattle.keep.proofs.deny_step.Reads as reads
-use Rattle.keep.proofs.deny_step.Lts as lts
-use Rattle.keep.proofs.cancel_one.Reads as cancel-one-reads
-use Rattle.keep.proofs.one_more.Reads as one-more-reads
-use Rattle.rules.proofs.Place.keep.Reads as keep-reads
 
--- src/lib.rt:263:13
 mul-k : tie.Need-mul-k
 mul-k c = search needs
 
--- src/lib.rt:263:13
 add-k : tie.Need-add-k
 add-k c = search needs
 
--- src/lib.rt:264:13
 mul-l : tie.Need-mul-l
 mul-l c = search needs
 
--- src/lib.rt:264:13
 array-copy-out-l : tie.Need-array-copy-out-l
 array-copy-out-l c = search needs
 
--- src/lib.rt:265:9
 keep-requires : tie.Need-keep-requires
-keep-requires c κs = let s = c .before in (s .pre .1 .1 .1 .1, omega (arith, s .pre .0 .room .each (s .args .b * 8 + s .args .p) .switches))
+keep-requires c κs =
+    let s = c .before in
+    (s .pre .1 .1 .1 .1, omega (arith, s .pre .0 .room .each (s .args .b * 8 + s .args .p) .switches))
 
--- src/lib.rt:266:9
 one-more-requires : tie.Need-one-more-requires
-one-more-requires c κs = let s = c .before .before in (s .pre .1 .1 .0, omega (arith, held-at (s .args .t1) (s .args .held) (s .args .bidders) (s .pre .0) (s .args .p) (s .pre .1 .1 .0)))
+one-more-requires c κs =
+    let s = c .before .before in (
+      s .pre .1 .1 .0,
+      omega
+          (arith, held-at (s .args .t1) (s .args .held) (s .args .bidders) (s .pre .0) (s .args .p) (s .pre .1 .1 .0)),
+    )
 
--- src/lib.rt:268:5
 mul-denied : tie.Need-mul-denied
 mul-denied c = search needs
 
--- src/lib.rt:268:5
 array-set-from-denied : tie.Need-array-set-from-denied
 array-set-from-denied c = search needs
 
--- src/lib.rt:269:9
 cancel-one-requires : tie.Need-cancel-one-requires
-cancel-one-requires c κs = let s = c .before .before .before in let a = s .args in (denied-booked (a .products) (a .bidders) (a .t1) (a .p) (a .held) (s .pre .0) (a .b) (c .before .keep .result) (c .one-more .result) (s .pre .1 .0) (s .pre .1 .1 .0) (s .pre .1 .1 .1 .1) (c .before .keep .ensures) (c .one-more .ensures), (s .pre .1 .0, s .pre .1 .1 .1 .0))
+cancel-one-requires c κs =
+    let s = c .before .before .before in
+    let a = s .args in (
+      denied-booked (a .products) (a .bidders) (a .t1) (a .p) (a .held) (s .pre .0) (a .b) (c .before .keep .result)
+          (c .one-more .result) (s .pre .1 .0) (s .pre .1 .1 .0) (s .pre .1 .1 .1 .1) (c .before .keep .ensures) (c .one-more .ensures),
+      (s .pre .1 .0, s .pre .1 .1 .1 .0),
+    )
 
--- src/lib.rt:259:1
 returns : tie.Need-returns
-returns c = let s = c .before .before .before .before .before .before in let a = s .args in denied-planned (a .products) (a .bidders) (a .t1) (a .p) (a .held) (s .pre .0) (a .b) (c .before .before .before .before .keep .result) (c .before .before .cancel-one .result) (s .pre .1 .0) (s .pre .1 .1 .0) (c .before .before .before .before .keep .ensures) (c .before .before .cancel-one .ensures)
+returns c =
+    let s = c .before .before .before .before .before .before in
+    let a = s .args in
+    denied-planned (a .products) (a .bidders) (a .t1) (a .p) (a .held) (s .pre .0) (a .b)
+    (c .before .before .before .before .keep .result) (c .before .before .cancel-one .result) (s .pre .1 .0) (s .pre .1 .1 .0)
+    (c .before .before .before .before .keep .ensures) (c .before .before .cancel-one .ensures)
 
 pub deny-step-spec : {M : Type 1} → statement M
 deny-step-spec =

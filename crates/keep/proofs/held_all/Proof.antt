@@ -1,53 +1,50 @@
-use Rattle.keep.proofs.Laws.{filled-next}
-use Rattle.rules.specs.Accept.{column, heldOf}
-use lib.ListN.{getD, length, length-set}
-use native.Mathlib.Nat.{le-antisymm}
-use native.Mathlib.Numerals.{add-one}
-use mathlib.Core.Path.{_≡_, refl, sym, _∙_, ap, subst}
-use Prim.Native.Nat.{ℕ, suc, _+_, _≤_, _<_, _*_, _-_}
+use mathlib.Core.Path.{_≡_, refl}
+use Prim.Native.Nat.{ℕ, _≤_, _<_, _-_}
 use native.Mathlib.Omega.{arith}
 use borrow.Author.Needs.{needs}
+use lib.ListN.{getD, length}
+use Rattle.rules.specs.Accept.{column, heldOf}
+use Rattle.keep.proofs.Laws.{filled-next}
 use Rattle.keep.proofs.held_all.Statement.{statement}
 use Rattle.keep.proofs.held_all.Tie as tie
-use Rattle.keep.proofs.held_all.Reads as reads
-use Rattle.keep.proofs.held_all.Lts as lts
-use Rattle.keep.proofs.held_on.Reads as held-on-reads
 
 abbrev Inv-loop : tie.InvT-loop
-Inv-loop places bidders all₀ p₀ all p = (p ≤ 8) × ((length all ≡ 8) × ((q : ℕ) → q < p → getD all q 0 ≡ column heldOf places q bidders))
+Inv-loop places bidders all₀ p₀ all p =
+    (p ≤ 8) × ((length all ≡ 8) × ((q : ℕ) → q < p → getD all q 0 ≡ column heldOf places q bidders))
 
 abbrev μ-loop : tie.MeasureT-loop
 μ-loop places bidders all₀ p₀ all p = 8 - p
 
--- src/lib.rt:137:5
 loop-holds : tie.Need-loop-holds Inv-loop μ-loop
 loop-holds c = (search needs, (refl, λ q l. absurd (let z : ⊥ = omega arith in z)))
 
--- src/lib.rt:138:18
 held-on-requires : tie.Need-held-on-requires Inv-loop μ-loop
 held-on-requires c κs = search needs
 
--- src/lib.rt:138:9
 mul-all : tie.Need-mul-all Inv-loop μ-loop
 mul-all c = search needs
 
--- src/lib.rt:138:9
 array-write-all : tie.Need-array-write-all Inv-loop μ-loop
 array-write-all c = search needs
 
--- src/lib.rt:139:9
 add-p : tie.Need-add-p Inv-loop μ-loop
 add-p c = search needs
 
--- src/lib.rt:137:5
 loop-less : tie.Need-loop-less Inv-loop μ-loop
 loop-less c = search needs
 
--- src/lib.rt:137:5
 loop-again : tie.Need-loop-again Inv-loop μ-loop
-loop-again c = let v = c .before .before .loop in (search needs, (search needs, filled-next (λ q x. x ≡ column heldOf (c .before .before .before .args .places) q (c .before .before .before .args .bidders)) 0 (v .all) (v .p) (c .held-on .result) (omega (arith, v .inv .1 .0, c .before .loop-test .taken)) (c .held-on .ensures .0) (v .inv .1 .1)))
+loop-again c =
+    let v = c .before .before .loop in (
+      search needs,
+      (
+        search needs,
+        filled-next
+            (λ q x. x ≡ column heldOf (c .before .before .before .args .places) q (c .before .before .before .args .bidders)) 0 (v .all)
+            (v .p) (c .held-on .result) (omega (arith, v .inv .1 .0, c .before .loop-test .taken)) (c .held-on .ensures .0) (v .inv .1 .1),
+      ),
+    )
 
--- src/lib.rt:131:1
 returns : tie.Need-returns Inv-loop μ-loop
 returns c = let v = c .before .loop in (v .inv .1 .0, λ q l. v .inv .1 .1 q (omega (arith, c .loop-test .left)))
 

@@ -1,15 +1,12 @@
-use Rattle.rules.specs.Accept.{column, heldOf}
+use mathlib.Core.Path.{_≡_}
+use Prim.Native.Nat.{_≤_, _*_, _-_}
 use native.Mathlib.Nat.{le-antisymm}
 use native.Mathlib.Numerals.{add-one}
-use mathlib.Core.Path.{_≡_}
-use Prim.Native.Nat.{_+_, _≤_, _*_, _-_}
 use native.Mathlib.Omega.{arith}
 use borrow.Author.Needs.{needs}
+use Rattle.rules.specs.Accept.{column, heldOf}
 use Rattle.keep.proofs.held_on.Statement.{statement}
 use Rattle.keep.proofs.held_on.Tie as tie
-use Rattle.keep.proofs.held_on.Reads as reads
-use Rattle.keep.proofs.held_on.Lts as lts
-use Rattle.rules.proofs.Record.held.Reads as held-reads
 
 abbrev Inv-loop : tie.InvT-loop
 Inv-loop product bidders places sum₀ i₀ sum i = (i ≤ bidders) × ((sum ≤ 196605 * i) × (sum ≡ column heldOf places product i))
@@ -17,47 +14,36 @@ Inv-loop product bidders places sum₀ i₀ sum i = (i ≤ bidders) × ((sum ≤
 abbrev μ-loop : tie.MeasureT-loop
 μ-loop product bidders places sum₀ i₀ sum i = bidders - i
 
--- src/lib.rt:122:5
 loop-holds : tie.Need-loop-holds Inv-loop μ-loop
 loop-holds c = search needs
 
--- src/lib.rt:123:17
 mul-k : tie.Need-mul-k Inv-loop μ-loop
 mul-k c = search needs
 
--- src/lib.rt:123:17
 add-k : tie.Need-add-k Inv-loop μ-loop
 add-k c = search needs
 
--- src/lib.rt:124:17
 mul-l : tie.Need-mul-l Inv-loop μ-loop
 mul-l c = search needs
 
--- src/lib.rt:124:17
 array-copy-out-l : tie.Need-array-copy-out-l Inv-loop μ-loop
 array-copy-out-l c = search needs
 
--- src/lib.rt:125:16
 held-requires : tie.Need-held-requires Inv-loop μ-loop
 held-requires c κs = search needs
 
--- src/lib.rt:125:9
 add-sum : tie.Need-add-sum Inv-loop μ-loop
 add-sum c = search needs
 
--- src/lib.rt:126:9
 add-i : tie.Need-add-i Inv-loop μ-loop
 add-i c = search needs
 
--- src/lib.rt:122:5
 loop-less : tie.Need-loop-less Inv-loop μ-loop
 loop-less c = search needs
 
--- src/lib.rt:122:5
 loop-again : tie.Need-loop-again Inv-loop μ-loop
 loop-again c = rw add-one (omega arith)
 
--- src/lib.rt:116:1
 returns : tie.Need-returns Inv-loop μ-loop
 returns c = (cc (le-antisymm (c .before .loop .inv .0) (c .loop-test .left)), omega arith)
 

@@ -1,18 +1,11 @@
-use Rattle.keep.proofs.Turn.{Turn, turn-start, first-same, turn-none, turn-out, turn-product, turn-again}
-use Rattle.keep.proofs.Laws.{held-at}
-use denote.Ref.{now}
-use mathlib.Core.Path.{_≡_, refl, sym, _∙_, ap, subst}
-use Prim.Native.Nat.{ℕ, suc, _+_, _≤_, _<_, _*_, _-_}
+use mathlib.Core.Path.{_∙_}
 use native.Mathlib.Omega.{arith}
 use borrow.Author.Needs.{needs}
+use denote.Ref.{now}
+use Rattle.keep.proofs.Laws.{held-at}
+use Rattle.keep.proofs.Turn.{Turn, turn-start, first-same, turn-none, turn-out, turn-product, turn-again}
 use Rattle.keep.proofs.keep_all.Statement.{statement}
 use Rattle.keep.proofs.keep_all.Tie as tie
-use Rattle.keep.proofs.keep_all.Reads as reads
-use Rattle.keep.proofs.keep_all.Lts as lts
-use Rattle.keep.proofs.first_short.Reads as first-short-reads
-use Rattle.keep.proofs.held_all.Reads as held-all-reads
-use Rattle.keep.proofs.left.Reads as left-reads
-use Rattle.keep.proofs.plan.Reads as plan-reads
 
 abbrev Inv-loop : tie.InvT-loop
 Inv-loop t ticks order m n work₀ held₀ count₀ fuel₀ work held count fuel = Turn t ticks order work₀ work held count fuel
@@ -20,81 +13,112 @@ Inv-loop t ticks order m n work₀ held₀ count₀ fuel₀ work held count fuel
 abbrev μ-loop : tie.MeasureT-loop
 μ-loop t ticks order m n work₀ held₀ count₀ fuel₀ work held count fuel = fuel
 
--- src/lib.rt:343:13
 cast-m : tie.Need-cast-m Inv-loop μ-loop
 cast-m c = search needs
 
--- src/lib.rt:344:13
 cast-n : tie.Need-cast-n Inv-loop μ-loop
 cast-n c = search needs
 
--- src/lib.rt:346:9
 held-all-requires : tie.Need-held-all-requires Inv-loop μ-loop
 held-all-requires c κs = c .before .before .before .pre .1 .0 .few
 
--- src/lib.rt:348:9
 left-requires : tie.Need-left-requires Inv-loop μ-loop
 left-requires c κs = c .before .before .before .before .pre .1 .0 .few
 
--- src/lib.rt:349:5
 loop-holds : tie.Need-loop-holds Inv-loop μ-loop
-loop-holds c = let s = c .before .before .before .before .before in let a = s .args in let h = c .before .held-all in turn-start (a .t) (a .ticks) (now (a .order)) (a .places) (h .result) (c .left .result) (record { room = s .pre .1 .1; few = s .pre .1 .0 .few; long = h .ensures .0; holds = h .ensures .1 }) (c .left .ensures .0) (c .left .ensures .1)
+loop-holds c =
+    let s = c .before .before .before .before .before in
+    let a = s .args in
+    let h = c .before .held-all in
+    turn-start (a .t) (a .ticks) (now (a .order)) (a .places) (h .result) (c .left .result)
+    (record { room = s .pre .1 .1; few = s .pre .1 .0 .few; long = h .ensures .0; holds = h .ensures .1 }) (c .left .ensures .0)
+    (c .left .ensures .1)
 
--- src/lib.rt:350:13
 first-short-requires : tie.Need-first-short-requires Inv-loop μ-loop
-first-short-requires c κs = let s = c .before .before .before .before .before .before .before in let a = s .args in let v = c .before .loop in (s .pre .0, λ q l. omega (arith, held-at (v .work) (v .held) (a .t .bidders) (v .inv .book) q l))
+first-short-requires c κs =
+    let s = c .before .before .before .before .before .before .before in
+    let a = s .args in
+    let v = c .before .loop in
+    (s .pre .0, λ q l. omega (arith, held-at (v .work) (v .held) (a .t .bidders) (v .inv .book) q l))
 
--- src/lib.rt:351:22
 enum-known-q : tie.Need-enum-known-q Inv-loop μ-loop
 enum-known-q c = search needs
 
--- src/lib.rt:353:25
 enum-told : tie.Need-enum-told Inv-loop μ-loop
 enum-told c = search needs
 
--- src/lib.rt:352:13
 returns : tie.Need-returns Inv-loop μ-loop
-returns c = let s = c .before .before .before .before .before .before .before .before .before .before in let a = s .args in let v = c .before .before .before .before .loop in (turn-none (a .t) (a .ticks) (now (a .order)) (a .places) (s .pre .0) (v .work) (v .held) (v .count) (v .fuel) (v .inv) (first-same (a .t) (a .ticks) (now (a .order)) (a .places) (s .pre .0) (v .work) (v .held) (v .count) (v .fuel) (v .inv) (c .before .before .first-short .result) (c .before .before .first-short .ensures) ∙ c .enum-told .given .1), v .inv .book .room)
+returns c =
+    let s = c .before .before .before .before .before .before .before .before .before .before in
+    let a = s .args in
+    let v = c .before .before .before .before .loop in (
+      turn-none (a .t) (a .ticks) (now (a .order)) (a .places) (s .pre .0) (v .work) (v .held) (v .count) (v .fuel) (v .inv)
+          (first-same (a .t) (a .ticks) (now (a .order)) (a .places) (s .pre .0) (v .work) (v .held) (v .count) (v .fuel) (v .inv)
+          (c .before .before .first-short .result) (c .before .before .first-short .ensures) ∙ c .enum-told .given .1),
+      v .inv .book
+          .room,
+    )
 
--- src/lib.rt:357:13
 plan-requires : tie.Need-plan-requires Inv-loop μ-loop
-plan-requires c κs = let s = c .before .before .before .before .before .before .before .before .before .before .before in let a = s .args in let v = c .before .before .before .before .before .loop in let f = c .before .before .before .first-short in record { book = v .inv .book; draw = s .pre .1 .0; products = s .pre .0; product = turn-product (a .t) (a .ticks) (now (a .order)) (a .places) (s .pre .0) (v .work) (v .held) (v .count) (v .fuel) (v .inv) (c .before .q .given .0 .0) (first-same (a .t) (a .ticks) (now (a .order)) (a .places) (s .pre .0) (v .work) (v .held) (v .count) (v .fuel) (v .inv) (f .result) (f .ensures) ∙ c .before .q .given .1) }
+plan-requires c κs =
+    let s = c .before .before .before .before .before .before .before .before .before .before .before in
+    let a = s .args in
+    let v = c .before .before .before .before .before .loop in
+    let f = c .before .before .before .first-short in
+    record {
+      book = v .inv .book;
+      draw = s .pre .1 .0;
+      products = s .pre .0;
+      product = turn-product (a .t) (a .ticks) (now (a .order)) (a
+          .places) (s .pre .0) (v .work) (v .held) (v .count) (v .fuel) (v .inv) (c .before .q .given .0 .0) (first-same (a .t) (a .ticks)
+          (now (a .order)) (a .places) (s .pre .0) (v .work) (v .held) (v .count) (v .fuel) (v .inv) (f .result) (f .ensures) ∙ c .before
+          .q .given .1);
+    }
 
--- src/lib.rt:363:9
 mul-work : tie.Need-mul-work Inv-loop μ-loop
 mul-work c = omega (arith, c .before .before .before .plan .ensures .first)
 
--- src/lib.rt:363:9
 array-set-from-work : tie.Need-array-set-from-work Inv-loop μ-loop
 array-set-from-work c = omega (arith, c .before .before .before .plan .ensures .first)
 
--- src/lib.rt:364:9
 mul-work-2 : tie.Need-mul-work-2 Inv-loop μ-loop
 mul-work-2 c = omega (arith, c .before .before .before .plan .ensures .second)
 
--- src/lib.rt:364:9
 array-set-from-work-2 : tie.Need-array-set-from-work-2 Inv-loop μ-loop
 array-set-from-work-2 c = omega (arith, c .before .before .before .plan .ensures .second)
 
--- src/lib.rt:366:9
 add-count : tie.Need-add-count Inv-loop μ-loop
 add-count c = omega (arith, c .before .before .before .before .before .before .before .before .before .loop .inv .some)
 
--- src/lib.rt:367:9
 sub-fuel : tie.Need-sub-fuel Inv-loop μ-loop
 sub-fuel c = omega (arith, c .before .before .before .before .before .before .before .before .loop-test .taken)
 
--- src/lib.rt:349:5
 loop-less : tie.Need-loop-less Inv-loop μ-loop
 loop-less c = omega (arith, c .before .before .before .before .before .before .before .before .loop-test .taken)
 
--- src/lib.rt:349:5
 loop-again : tie.Need-loop-again Inv-loop μ-loop
-loop-again c = let s = c .before .before .before .before .before .before .before .before .before .before .before .before .before .before .before in let a = s .args in let v = c .before .before .before .before .before .before .before .before .before .loop in let f = c .before .before .before .before .before .before .before .first-short in turn-again (a .t) (a .ticks) (now (a .order)) (a .places) (s .pre .0) (v .work) (v .held) (v .count) (v .fuel) (v .inv) (c .before .before .before .before .before .q .given .0 .0) (first-same (a .t) (a .ticks) (now (a .order)) (a .places) (s .pre .0) (v .work) (v .held) (v .count) (v .fuel) (v .inv) (f .result) (f .ensures) ∙ c .before .before .before .before .before .q .given .1) (c .before .before .before .plan .result) (c .before .before .before .before .before .before .before .before .loop-test .taken) (c .before .before .before .plan .ensures)
+loop-again c =
+    let s = c .before .before .before .before .before .before .before .before .before .before .before .before .before .before
+    .before in
+    let a = s .args in
+    let v = c .before .before .before .before .before .before .before .before .before .loop in
+    let f = c .before .before .before .before .before .before .before .first-short in
+    turn-again (a .t) (a .ticks) (now (a .order)) (a .places) (s .pre .0) (v .work) (v .held) (v .count) (v .fuel) (v .inv)
+    (c .before .before .before .before .before .q .given .0 .0)
+    (first-same (a .t) (a .ticks) (now (a .order)) (a .places) (s .pre .0) (v .work) (v .held) (v .count) (v .fuel) (v .inv)
+    (f .result) (f .ensures) ∙ c .before .before .before .before .before .q .given .1)
+    (c .before .before .before .plan .result) (c .before .before .before .before .before .before .before .before .loop-test .taken)
+    (c .before .before .before .plan .ensures)
 
--- src/lib.rt:339:1
 returns-2 : tie.Need-returns-2 Inv-loop μ-loop
-returns-2 c = let s = c .before .before .before .before .before .before .before in let a = s .args in let v = c .before .loop in (turn-out (a .t) (a .ticks) (now (a .order)) (a .places) (s .pre .0) (v .work) (v .held) (v .count) (v .fuel) (v .inv) (c .loop-test .left), v .inv .book .room)
+returns-2 c =
+    let s = c .before .before .before .before .before .before .before in
+    let a = s .args in
+    let v = c .before .loop in (
+      turn-out (a .t) (a .ticks) (now (a .order)) (a .places) (s .pre .0) (v .work) (v .held) (v .count) (v .fuel) (v .inv)
+          (c .loop-test .left),
+      v .inv .book .room,
+    )
 
 pub keep-all-spec : {M : Type 1} → statement M
 keep-all-spec =

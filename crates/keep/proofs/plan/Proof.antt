@@ -1,30 +1,23 @@
-use Rattle.keep.proofs.Steps.{exits, leaver-next, leaver-who, leaver-fits, planned-retain}
-use Rattle.keep.proofs.Laws.{held-at}
-use Rattle.keep.specs.Search.{noted}
-use Rattle.rules.specs.Round.{drawn}
-use Rattle.rules.specs.Keep.{leaver}
-use Rattle.rules.specs.Accept.{placeAt, leavingOf}
-use Rattle.rules.specs.declared.Pick.the-variants.{At, Nobody}
-use denote.Ref.{now}
+use mathlib.Core.Path.{_≡_, sym, _∙_, subst}
+use Prim.Native.Nat.{_+_, _≤_, _<_, _*_, _-_}
 use native.Mathlib.Nat.{le-antisymm}
 use native.Mathlib.Numerals.{add-one}
-use mathlib.Core.Path.{_≡_, refl, sym, _∙_, ap, subst}
-use Prim.Native.Nat.{ℕ, suc, _+_, _≤_, _<_, _*_, _-_}
 use native.Mathlib.Omega.{arith}
 use borrow.Author.Needs.{needs}
+use denote.Ref.{now}
+use Rattle.rules.specs.Accept.{placeAt, leavingOf}
+use Rattle.rules.specs.Keep.{leaver}
+use Rattle.rules.specs.Round.{drawn}
+use Rattle.rules.specs.declared.Pick.the-variants.{At}
+use Rattle.keep.specs.Search.{noted}
+use Rattle.keep.proofs.Laws.{held-at}
+use Rattle.keep.proofs.Steps.{exits, leaver-next, leaver-who, leaver-fits, planned-retain}
 use Rattle.keep.proofs.plan.Statement.{statement}
 use Rattle.keep.proofs.plan.Tie as tie
-use Rattle.keep.proofs.plan.Reads as reads
-use Rattle.keep.proofs.plan.Lts as lts
-use Rattle.keep.proofs.Best.lower.Reads as lower-reads
-use Rattle.keep.proofs.Best.none.Reads as none-reads
-use Rattle.keep.proofs.bidder_at.Reads as bidder-at-reads
-use Rattle.keep.proofs.one_more.Reads as one-more-reads
-use Rattle.keep.proofs.plan_switch.Reads as plan-switch-reads
-use Rattle.rules.proofs.Place.retain.Reads as retain-reads
 
 abbrev Inv-loop : tie.InvT-loop
-Inv-loop held order p products bidders places best₀ i₀ best i = (i ≤ bidders) × (best ≡ noted (exits places (drawn order) p) (leaver i (drawn order) places p))
+Inv-loop held order p products bidders places best₀ i₀ best i =
+    (i ≤ bidders) × (best ≡ noted (exits places (drawn order) p) (leaver i (drawn order) places p))
 
 abbrev μ-loop : tie.MeasureT-loop
 μ-loop held order p products bidders places best₀ i₀ best i = bidders - i
@@ -48,97 +41,99 @@ found c =
     let f = leaver-fits (a .t1) (drawn (now (a .order))) (a .p) (a .bidders) (g .0 .0) e in
     (f .0, (f .1, e))
 
--- src/lib.rt:311:9
 none-requires : tie.Need-none-requires Inv-loop μ-loop
 none-requires c κs = search needs
 
--- src/lib.rt:313:5
 loop-holds : tie.Need-loop-holds Inv-loop μ-loop
 loop-holds c = search needs
 
--- src/lib.rt:314:13
 bidder-at-requires : tie.Need-bidder-at-requires Inv-loop μ-loop
 bidder-at-requires c κs = search needs
 
--- src/lib.rt:315:17
 mul-k : tie.Need-mul-k Inv-loop μ-loop
 mul-k c = search needs
 
--- src/lib.rt:315:17
 add-k : tie.Need-add-k Inv-loop μ-loop
 add-k c = search needs
 
--- src/lib.rt:316:17
 mul-l : tie.Need-mul-l Inv-loop μ-loop
 mul-l c = search needs
 
--- src/lib.rt:316:17
 array-copy-out-l : tie.Need-array-copy-out-l Inv-loop μ-loop
 array-copy-out-l c = search needs
 
--- src/lib.rt:317:9
 lower-requires : tie.Need-lower-requires Inv-loop μ-loop
 lower-requires c κs = search needs
 
--- src/lib.rt:318:9
 add-i : tie.Need-add-i Inv-loop μ-loop
 add-i c = search needs
 
--- src/lib.rt:313:5
 loop-less : tie.Need-loop-less Inv-loop μ-loop
 loop-less c = search needs
 
--- src/lib.rt:313:5
 loop-again : tie.Need-loop-again Inv-loop μ-loop
-loop-again c = let a = c .before .before .before .before .before .before .before .before .args in let v = c .before .before .before .before .before .loop in (search needs, rw add-one (leaver-next (a .t1) (drawn (now (a .order))) (a .p) (v .i) (c .before .before .before .bidder-at .result) (v .best) (c .lower .result) (c .before .before .before .bidder-at .ensures .0) (v .inv .1) (c .lower .ensures)))
+loop-again c =
+    let a = c .before .before .before .before .before .before .before .before .args in
+    let v = c .before .before .before .before .before .loop in (
+      search needs,
+      rw add-one (leaver-next (a .t1) (drawn (now (a .order))) (a .p) (v .i)
+          (c .before .before .before .bidder-at .result) (v .best) (c .lower .result) (c .before .before .before .bidder-at .ensures .0)
+          (v .inv .1) (c .lower .ensures)),
+    )
 
--- src/lib.rt:321:18
 enum-known-who : tie.Need-enum-known-who Inv-loop μ-loop
 enum-known-who c = search needs
 
--- src/lib.rt:322:28
 enum-told : tie.Need-enum-told Inv-loop μ-loop
 enum-told c = search needs
 
--- src/lib.rt:322:9
 plan-switch-requires : tie.Need-plan-switch-requires Inv-loop μ-loop
-plan-switch-requires c κs = (c .before .before .before .before .before .before .pre, sym (picked (c .before .before)) ∙ c .enum-told .given .1)
+plan-switch-requires c κs =
+    (c .before .before .before .before .before .before .pre, sym (picked (c .before .before)) ∙ c .enum-told .given .1)
 
--- src/lib.rt:322:9
 returns : tie.Need-returns Inv-loop μ-loop
 returns c = c .plan-switch .ensures
 
--- src/lib.rt:324:9
 bidder-at-requires-2 : tie.Need-bidder-at-requires-2 Inv-loop μ-loop
 bidder-at-requires-2 c κs = (found c .0, c .before .before .before .before .before .before .before .pre .draw)
 
--- src/lib.rt:325:13
 mul-k-2 : tie.Need-mul-k-2 Inv-loop μ-loop
 mul-k-2 c = search needs
 
--- src/lib.rt:325:13
 add-k-2 : tie.Need-add-k-2 Inv-loop μ-loop
 add-k-2 c = search needs
 
--- src/lib.rt:326:13
 mul-l-2 : tie.Need-mul-l-2 Inv-loop μ-loop
 mul-l-2 c = search needs
 
--- src/lib.rt:326:13
 array-copy-out-l-2 : tie.Need-array-copy-out-l-2 Inv-loop μ-loop
 array-copy-out-l-2 c = search needs
 
--- src/lib.rt:327:9
 retain-requires : tie.Need-retain-requires Inv-loop μ-loop
-retain-requires c κs = let s = c .before .before .before .before .before .before .before .before .before in let a = s .args in let b = c .before .bidder-at2 in let f = subst (λ b. 0 < leavingOf (placeAt (a .t1) (b * 8 + a .p))) (sym (b .ensures .0)) (found (c .before .before) .1 .0) in (f, omega (arith, f, s .pre .book .room .each (b .result * 8 + a .p) .outs))
+retain-requires c κs =
+    let s = c .before .before .before .before .before .before .before .before .before in
+    let a = s .args in
+    let b = c .before .bidder-at2 in
+    let f = subst (λ b. 0 < leavingOf (placeAt (a .t1) (b * 8 + a .p))) (sym (b .ensures .0)) (found (c .before .before) .1 .0) in
+    (f, omega (arith, f, s .pre .book .room .each (b .result * 8 + a .p) .outs))
 
--- src/lib.rt:328:9
 one-more-requires : tie.Need-one-more-requires Inv-loop μ-loop
-one-more-requires c κs = let s = c .before .before .before .before .before .before .before .before .before .before in (s .pre .product, omega (arith, held-at (s .args .t1) (s .args .held) (s .args .bidders) (s .pre .book) (s .args .p) (s .pre .product)))
+one-more-requires c κs =
+    let s = c .before .before .before .before .before .before .before .before .before .before in (
+      s .pre .product,
+      omega
+          (arith, held-at (s .args .t1) (s .args .held) (s .args .bidders) (s .pre .book) (s .args .p) (s .pre .product)),
+    )
 
--- src/lib.rt:307:1
 returns-2 : tie.Need-returns-2 Inv-loop μ-loop
-returns-2 c = let s = c .before .before .before .before .before .before .before .before .before .before .before in let a = s .args in let b = c .before .before .before .bidder-at2 in planned-retain (a .products) (a .bidders) (drawn (now (a .order))) (a .t1) (a .p) (a .held) (s .pre .book) (c .before .before .before .before .before .who .given .0 .0) (b .result) (c .before .retain .result) (c .one-more .result) (b .ensures .0) (b .ensures .1) (s .pre .product) (found (c .before .before .before .before) .1 .1) (c .before .retain .ensures) (c .one-more .ensures)
+returns-2 c =
+    let s = c .before .before .before .before .before .before .before .before .before .before .before in
+    let a = s .args in
+    let b = c .before .before .before .bidder-at2 in
+    planned-retain (a .products) (a .bidders) (drawn (now (a .order))) (a .t1) (a .p) (a .held) (s .pre .book)
+    (c .before .before .before .before .before .who .given .0 .0) (b .result) (c .before .retain .result) (c .one-more .result)
+    (b .ensures .0) (b .ensures .1) (s .pre .product) (found (c .before .before .before .before) .1 .1) (c .before .retain .ensures)
+    (c .one-more .ensures)
 
 pub plan-spec : {M : Type 1} → statement M
 plan-spec =

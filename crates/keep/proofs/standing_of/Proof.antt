@@ -1,25 +1,19 @@
-use native.Mathlib.Omega.{arith}
 use Prim.Native.Nat.{_≤_}
-use Rattle.held.proofs.Signed.{less, less-fits, less-back}
+use native.Mathlib.Omega.{arith}
 use borrow.Author.Needs.{needs}
+use Rattle.held.proofs.Signed.{less, less-fits, less-back}
 use Rattle.keep.proofs.standing_of.Statement.{statement}
 use Rattle.keep.proofs.standing_of.Tie as tie
-use Rattle.keep.proofs.standing_of.Reads as reads
-use Rattle.keep.proofs.standing_of.Lts as lts
 
--- src/lib.rt:101:5
 cast-result : tie.Need-cast-result
 cast-result c = search needs
 
--- src/lib.rt:101:19
 cast-result-2 : tie.Need-cast-result-2
 cast-result-2 c = search needs
 
--- src/lib.rt:101:5
 sub-result : tie.Need-sub-result
 sub-result c = let k : c .args .target ≤ 10000000 = omega arith in rw (less _ _ (c .pre) k) (less-fits _ _ (c .pre) k)
 
--- src/lib.rt:97:1
 returns : tie.Need-returns
 returns c = let k : c .args .target ≤ 10000000 = omega arith in rw (less _ _ (c .pre) k) (less-back _ _ (c .pre) k)
 

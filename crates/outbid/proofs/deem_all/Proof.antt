@@ -1,20 +1,16 @@
-use Rattle.outbid.proofs.Laws.{fits-deem, deemed-next}
-use Rattle.keep.proofs.Laws.{room-set}
-use Rattle.keep.specs.Room.{Fits, Room, isOne}
-use Rattle.rules.specs.Outbid.{deemedUpTo}
-use Rattle.rules.specs.Accept.{placeAt}
-use borrow.Author.Tests.{eq-eqb, ne-eqb, lt-ltb, le-ltb}
+use mathlib.Core.Path.{_≡_, refl, sym, subst}
+use Prim.Native.Nat.{_≤_, _*_, _-_, _%_}
 use native.Mathlib.Nat.{le-antisymm}
 use native.Mathlib.Numerals.{add-one}
-use mathlib.Core.Path.{_≡_, refl, sym, _∙_, ap, ap₂, subst}
-use Prim.Native.Nat.{ℕ, suc, _+_, _≤_, _<_, _*_, _-_, _%_}
 use native.Mathlib.Omega.{arith}
 use borrow.Author.Needs.{needs}
+use Rattle.rules.specs.Accept.{placeAt}
+use Rattle.rules.specs.Outbid.{deemedUpTo}
+use Rattle.keep.proofs.Laws.{room-set}
+use Rattle.keep.specs.Room.{Fits, Room, isOne}
+use Rattle.outbid.proofs.Laws.{fits-deem, deemed-next}
 use Rattle.outbid.proofs.deem_all.Statement.{statement}
 use Rattle.outbid.proofs.deem_all.Tie as tie
-use Rattle.outbid.proofs.deem_all.Reads as reads
-use Rattle.outbid.proofs.deem_all.Lts as lts
-use Rattle.outbid.proofs.deem_one.Reads as deem-one-reads
 
 abbrev Inv-loop : tie.InvT-loop
 Inv-loop bidders ticks n work₀ k₀ work k = (k ≤ bidders * 8) × ((work ≡ deemedUpTo (isOne ticks) work₀ k) × Room work)
@@ -22,52 +18,52 @@ Inv-loop bidders ticks n work₀ k₀ work k = (k ≤ bidders * 8) × ((work ≡
 abbrev μ-loop : tie.MeasureT-loop
 μ-loop bidders ticks n work₀ k₀ work k = bidders * 8 - k
 
--- src/lib.rt:44:13
 mul-n : tie.Need-mul-n Inv-loop μ-loop
 mul-n c = search needs
 
--- src/lib.rt:47:5
 loop-holds : tie.Need-loop-holds Inv-loop μ-loop
 unfolding deemedUpTo
 loop-holds c = (search needs, (refl, c .pre .1))
 
--- src/lib.rt:49:17
 mul-l : tie.Need-mul-l Inv-loop μ-loop
 mul-l c = search needs
 
--- src/lib.rt:49:17
 array-copy-out-l : tie.Need-array-copy-out-l Inv-loop μ-loop
 array-copy-out-l c = search needs
 
--- src/lib.rt:50:29
 array-read-deem-one : tie.Need-array-read-deem-one Inv-loop μ-loop
 array-read-deem-one c = search needs
 
--- src/lib.rt:50:13
 deem-one-requires : tie.Need-deem-one-requires Inv-loop μ-loop
 deem-one-requires c κs = omega (arith, c .before .before .loop .inv .1 .1 .each (c .before .before .loop .k) .switches)
 
--- src/lib.rt:51:9
 mul-work : tie.Need-mul-work Inv-loop μ-loop
 mul-work c = search needs
 
--- src/lib.rt:51:9
 array-set-from-work : tie.Need-array-set-from-work Inv-loop μ-loop
 array-set-from-work c = search needs
 
--- src/lib.rt:52:9
 add-k : tie.Need-add-k Inv-loop μ-loop
 add-k c = search needs
 
--- src/lib.rt:47:5
 loop-less : tie.Need-loop-less Inv-loop μ-loop
 loop-less c = search needs
 
--- src/lib.rt:47:5
 loop-again : tie.Need-loop-again Inv-loop μ-loop
-loop-again c = let s = c .before .before .before .before in let a = s .args in let v = c .before .before .before .loop in (search needs, (rw add-one (deemed-next (isOne (a .t2)) (a .places) (v .work) (v .k) (c .deem-one .result) (v .inv .1 .0) (c .deem-one .ensures)), room-set (v .work) (v .inv .1 .1) (v .k) (c .deem-one .result) (omega (arith, c .before .before .loop-test .taken, s .pre .0)) (subst Fits (sym (c .deem-one .ensures)) (fits-deem (isOne (a .t2) (v .k % 8)) (placeAt (v .work) (v .k)) (v .inv .1 .1 .each (v .k))))))
+loop-again c =
+    let s = c .before .before .before .before in
+    let a = s .args in
+    let v = c .before .before .before .loop in (
+      search needs,
+      (
+        rw add-one (deemed-next (isOne (a .t2)) (a .places) (v .work) (v .k) (c .deem-one .result) (v .inv .1 .0)
+            (c .deem-one .ensures)),
+        room-set (v .work) (v .inv .1 .1) (v .k) (c .deem-one .result) (omega
+            (arith, c .before .before .loop-test .taken, s .pre .0)) (subst Fits (sym (c .deem-one .ensures))
+            (fits-deem (isOne (a .t2) (v .k % 8)) (placeAt (v .work) (v .k)) (v .inv .1 .1 .each (v .k)))),
+      ),
+    )
 
--- src/lib.rt:40:1
 returns : tie.Need-returns Inv-loop μ-loop
 returns c = (cc (le-antisymm (c .before .loop .inv .0) (c .loop-test .left)), c .before .loop .inv .1 .1)
 

@@ -1,29 +1,23 @@
-use Rattle.outbid.proofs.Laws.{exits, retained-next, retained-who, retained-fits, lost-none, lost-retained}
-use Rattle.keep.specs.Search.{noted}
-use Rattle.rules.specs.Round.{drawn}
-use Rattle.rules.specs.Outbid.{retainedOne}
-use Rattle.rules.specs.Accept.{placeAt}
-use Rattle.rules.specs.Held.{retainedIn}
-use Rattle.rules.specs.declared.Pick.the-variants.{At, Nobody}
-use denote.Ref.{now}
-use borrow.Author.Tests.{eq-eqb, ne-eqb, lt-ltb, le-ltb}
+use mathlib.Core.Path.{_≡_, sym, _∙_, subst}
+use Prim.Native.Nat.{_+_, _≤_, _<_, _*_, _-_}
 use native.Mathlib.Nat.{le-antisymm}
 use native.Mathlib.Numerals.{add-one}
-use mathlib.Core.Path.{_≡_, refl, sym, _∙_, ap, ap₂, subst}
-use Prim.Native.Nat.{ℕ, suc, _+_, _≤_, _<_, _*_, _-_, _%_}
 use native.Mathlib.Omega.{arith}
 use borrow.Author.Needs.{needs}
+use denote.Ref.{now}
+use Rattle.rules.specs.Accept.{placeAt}
+use Rattle.rules.specs.Held.{retainedIn}
+use Rattle.rules.specs.Outbid.{retainedOne}
+use Rattle.rules.specs.Round.{drawn}
+use Rattle.rules.specs.declared.Pick.the-variants.{At}
+use Rattle.keep.specs.Search.{noted}
+use Rattle.outbid.proofs.Laws.{exits, retained-next, retained-who, retained-fits, lost-none, lost-retained}
 use Rattle.outbid.proofs.lose_retained.Statement.{statement}
 use Rattle.outbid.proofs.lose_retained.Tie as tie
-use Rattle.outbid.proofs.lose_retained.Reads as reads
-use Rattle.outbid.proofs.lose_retained.Lts as lts
-use Rattle.keep.proofs.Best.higher.Reads as higher-reads
-use Rattle.keep.proofs.Best.none.Reads as none-reads
-use Rattle.keep.proofs.bidder_at.Reads as bidder-at-reads
-use Rattle.rules.proofs.Place.outbid_withdrawal.Reads as outbid-withdrawal-reads
 
 abbrev Inv-loop : tie.InvT-loop
-Inv-loop order p bidders places best₀ i₀ best i = (i ≤ bidders) × (best ≡ noted (exits places (drawn order) p) (retainedOne i (drawn order) places p))
+Inv-loop order p bidders places best₀ i₀ best i =
+    (i ≤ bidders) × (best ≡ noted (exits places (drawn order) p) (retainedOne i (drawn order) places p))
 
 abbrev μ-loop : tie.MeasureT-loop
 μ-loop order p bidders places best₀ i₀ best i = bidders - i
@@ -34,12 +28,14 @@ picked c =
     let a = c .before .before .before .before .args in
     let v = c .before .loop in
     retained-who (a .t1) (drawn (now (a .order))) (a .p) (a .bidders) (v .best)
-    (subst (λ i. v .best ≡ noted (exits (a .t1) (drawn (now (a .order))) (a .p)) (retainedOne i (drawn (now (a .order))) (a .t1) (a .p)))
+    (subst
+    (λ i. v .best ≡ noted (exits (a .t1) (drawn (now (a .order))) (a .p)) (retainedOne i (drawn (now (a .order))) (a .t1) (a .p)))
     (le-antisymm (v .inv .0) (c .loop-test .left)) (v .inv .1))
 
 found : (c : tie.After-known-told Inv-loop μ-loop) → let a = c .before .before .before .before .before .before .before .args in
     let j = c .before .who .given .0 .0 in let draw = drawn (now (a .order)) in
-    (j < a .bidders) × ((0 < retainedIn (placeAt (a .t1) (draw j * 8 + a .p) .holds)) × (retainedOne (a .bidders) draw (a .t1) (a .p) ≡ At j))
+    (j < a .bidders) ×
+    ((0 < retainedIn (placeAt (a .t1) (draw j * 8 + a .p) .holds)) × (retainedOne (a .bidders) draw (a .t1) (a .p) ≡ At j))
 found c =
     let a = c .before .before .before .before .before .before .before .args in
     let g = c .before .who .given in
@@ -47,93 +43,92 @@ found c =
     let f = retained-fits (a .t1) (drawn (now (a .order))) (a .p) (a .bidders) (g .0 .0) e in
     (f .0, (f .1, e))
 
--- src/lib.rt:114:9
 none-requires : tie.Need-none-requires Inv-loop μ-loop
 none-requires c κs = search needs
 
--- src/lib.rt:116:5
 loop-holds : tie.Need-loop-holds Inv-loop μ-loop
 loop-holds c = search needs
 
--- src/lib.rt:117:13
 bidder-at-requires : tie.Need-bidder-at-requires Inv-loop μ-loop
 bidder-at-requires c κs = search needs
 
--- src/lib.rt:118:17
 mul-k : tie.Need-mul-k Inv-loop μ-loop
 mul-k c = search needs
 
--- src/lib.rt:118:17
 add-k : tie.Need-add-k Inv-loop μ-loop
 add-k c = search needs
 
--- src/lib.rt:119:17
 mul-l : tie.Need-mul-l Inv-loop μ-loop
 mul-l c = search needs
 
--- src/lib.rt:119:17
 array-copy-out-l : tie.Need-array-copy-out-l Inv-loop μ-loop
 array-copy-out-l c = search needs
 
--- src/lib.rt:120:9
 higher-requires : tie.Need-higher-requires Inv-loop μ-loop
 higher-requires c κs = search needs
 
--- src/lib.rt:121:9
 add-i : tie.Need-add-i Inv-loop μ-loop
 add-i c = search needs
 
--- src/lib.rt:116:5
 loop-less : tie.Need-loop-less Inv-loop μ-loop
 loop-less c = search needs
 
--- src/lib.rt:116:5
 loop-again : tie.Need-loop-again Inv-loop μ-loop
-loop-again c = let a = c .before .before .before .before .before .before .before .before .args in let v = c .before .before .before .before .before .loop in (search needs, rw add-one (retained-next (a .t1) (drawn (now (a .order))) (a .p) (v .i) (c .before .before .before .bidder-at .result) (v .best) (c .higher .result) (c .before .before .before .bidder-at .ensures .0) (v .inv .1) (c .higher .ensures)))
+loop-again c =
+    let a = c .before .before .before .before .before .before .before .before .args in
+    let v = c .before .before .before .before .before .loop in (
+      search needs,
+      rw add-one (retained-next (a .t1) (drawn (now (a .order))) (a .p) (v .i)
+          (c .before .before .before .bidder-at .result) (v .best) (c .higher .result) (c .before .before .before .bidder-at .ensures .0)
+          (v .inv .1) (c .higher .ensures)),
+    )
 
--- src/lib.rt:124:18
 enum-known-who : tie.Need-enum-known-who Inv-loop μ-loop
 enum-known-who c = search needs
 
--- src/lib.rt:125:17
 enum-told : tie.Need-enum-told Inv-loop μ-loop
 enum-told c = search needs
 
--- src/lib.rt:125:17
 array-copy-out-l-2 : tie.Need-array-copy-out-l-2 Inv-loop μ-loop
 array-copy-out-l-2 c = search needs
 
--- src/lib.rt:126:9
 returns : tie.Need-returns Inv-loop μ-loop
-returns c = let s = c .before .before .before .before .before .before .before in let a = s .args in lost-none (a .bidders) (drawn (now (a .order))) (a .t1) (s .pre .0) (a .p) (s .pre .1 .1 .1) (sym (picked (c .before .before .before)) ∙ c .before .enum-told .given .1)
+returns c =
+    let s = c .before .before .before .before .before .before .before in
+    let a = s .args in
+    lost-none (a .bidders) (drawn (now (a .order))) (a .t1) (s .pre .0) (a .p) (s .pre .1 .1 .1)
+    (sym (picked (c .before .before .before)) ∙ c .before .enum-told .given .1)
 
--- src/lib.rt:134:9
 bidder-at-requires-2 : tie.Need-bidder-at-requires-2 Inv-loop μ-loop
 bidder-at-requires-2 c κs = (found c .0, c .before .before .before .before .before .before .before .pre .1 .0)
 
--- src/lib.rt:135:14
 mul-at : tie.Need-mul-at Inv-loop μ-loop
 mul-at c = search needs
 
--- src/lib.rt:135:14
 add-at : tie.Need-add-at Inv-loop μ-loop
 add-at c = search needs
 
--- src/lib.rt:136:13
 mul-l-2 : tie.Need-mul-l-2 Inv-loop μ-loop
 mul-l-2 c = search needs
 
--- src/lib.rt:136:13
 array-copy-out-l-3 : tie.Need-array-copy-out-l-3 Inv-loop μ-loop
 array-copy-out-l-3 c = search needs
 
--- src/lib.rt:137:9
 outbid-withdrawal-requires : tie.Need-outbid-withdrawal-requires Inv-loop μ-loop
-outbid-withdrawal-requires c κs = let a = c .before .before .before .before .before .before .before .before .before .args in subst (λ b. 0 < retainedIn (placeAt (a .t1) (b * 8 + a .p) .holds)) (sym (c .before .bidder-at2 .ensures .0)) (found (c .before .before) .1 .0)
+outbid-withdrawal-requires c κs =
+    let a = c .before .before .before .before .before .before .before .before .before .args in
+    subst (λ b. 0 < retainedIn (placeAt (a .t1) (b * 8 + a .p) .holds)) (sym (c .before .bidder-at2 .ensures .0))
+    (found (c .before .before) .1 .0)
 
--- src/lib.rt:110:1
 returns-2 : tie.Need-returns-2 Inv-loop μ-loop
-returns-2 c = let s = c .before .before .before .before .before .before .before .before .before .before in let a = s .args in let b = c .before .before .bidder-at2 in lost-retained (a .bidders) (drawn (now (a .order))) (a .t1) (s .pre .0) (a .p) (c .before .before .before .before .who .given .0 .0) (b .result) (c .outbid-withdrawal .result) (b .ensures .0) (omega (arith, b .ensures .1, s .pre .1 .0 .few)) (s .pre .1 .1 .0) (s .pre .1 .1 .1) (found (c .before .before .before) .1 .1) (c .outbid-withdrawal .ensures)
+returns-2 c =
+    let s = c .before .before .before .before .before .before .before .before .before .before in
+    let a = s .args in
+    let b = c .before .before .bidder-at2 in
+    lost-retained (a .bidders) (drawn (now (a .order))) (a .t1) (s .pre .0) (a .p)
+    (c .before .before .before .before .who .given .0 .0) (b .result) (c .outbid-withdrawal .result) (b .ensures .0)
+    (omega (arith, b .ensures .1, s .pre .1 .0 .few)) (s .pre .1 .1 .0) (s .pre .1 .1 .1) (found (c .before .before .before) .1 .1)
+    (c .outbid-withdrawal .ensures)
 
 pub lose-retained-spec : {M : Type 1} → statement M
 lose-retained-spec =

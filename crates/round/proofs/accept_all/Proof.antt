@@ -1,105 +1,106 @@
-use Rattle.round.proofs.Bids.{accepted-here}
-use Rattle.keep.specs.Room.{isOne}
-use Rattle.rules.specs.Accept.{nowhere, placeAt, accepted}
-use Rattle.rules.specs.Bid.{recordOf, beforeAt, defaultLine, bidOn}
-use Rattle.rules.specs.Held.{recordAt}
-use Rattle.rules.specs.Card.{noLine}
 use mathlib.Core.Bool.{cond}
-use lib.ListN.{length-replicate}
+use mathlib.Core.Path.{_≡_, _∙_, ap}
+use Prim.Native.Nat.{ℕ, _≤_, _<_, _-_, _/_, _%_}
 use native.Mathlib.Nat.{mod-lt}
-use Rattle.rules.proofs.Lists.{list-is}
-use Rattle.keep.proofs.Laws.{filled-next}
-use lib.ListN.{getD, length}
-use mathlib.Core.Path.{_≡_, refl, sym, _∙_, ap, subst}
-use Prim.Native.Nat.{ℕ, suc, _+_, _≤_, _<_, _*_, _-_, _/_, _%_}
 use native.Mathlib.Omega.{arith}
 use borrow.Author.Needs.{needs}
+use lib.ListN.{getD, length}
+use lib.ListN.{length-replicate}
+use Rattle.rules.specs.Accept.{nowhere, placeAt, accepted}
+use Rattle.rules.specs.Bid.{recordOf, beforeAt, defaultLine, bidOn}
+use Rattle.rules.specs.Card.{noLine}
+use Rattle.rules.specs.Held.{recordAt}
+use Rattle.rules.proofs.Lists.{list-is}
+use Rattle.keep.proofs.Laws.{filled-next}
+use Rattle.keep.specs.Room.{isOne}
+use Rattle.round.proofs.Bids.{accepted-here}
 use Rattle.round.proofs.accept_all.Statement.{statement}
 use Rattle.round.proofs.accept_all.Tie as tie
-use Rattle.round.proofs.accept_all.Reads as reads
-use Rattle.round.proofs.accept_all.Lts as lts
-use Rattle.round.proofs.accept.Reads as accept-reads
-use Rattle.round.proofs.bid_of.Reads as bid-of-reads
-use Rattle.round.proofs.filed.Reads as filed-reads
-use Rattle.round.proofs.nowhere.Reads as nowhere-reads
 
 abbrev Inv-loop : tie.InvT-loop
-Inv-loop a ticks all₀ k₀ all k = (k ≤ 256) × ((length all ≡ 256) × ((j : ℕ) → j < k → placeAt all j ≡ accepted (recordOf a (j / 8) (j % 8)) (bidOn a (j / 8) (j % 8))))
+Inv-loop a ticks all₀ k₀ all k =
+    (k ≤ 256) ×
+    ((length all ≡ 256) × ((j : ℕ) → j < k → placeAt all j ≡ accepted (recordOf a (j / 8) (j % 8)) (bidOn a (j / 8) (j % 8))))
 
 abbrev μ-loop : tie.MeasureT-loop
 μ-loop a ticks all₀ k₀ all k = 256 - k
 
--- src/lib.rt:123:9
 nowhere-requires : tie.Need-nowhere-requires Inv-loop μ-loop
 nowhere-requires c κs = search needs
 
--- src/lib.rt:126:5
 loop-holds : tie.Need-loop-holds Inv-loop μ-loop
 loop-holds c = (search needs, (length-replicate 256 (c .nowhere .result), λ j l. absurd (let z : ⊥ = omega arith in z)))
 
--- src/lib.rt:129:17
 mul-r : tie.Need-mul-r Inv-loop μ-loop
 mul-r c = search needs
 
--- src/lib.rt:129:17
 element-copy-out-r : tie.Need-element-copy-out-r Inv-loop μ-loop
 element-copy-out-r c = search needs
 
--- src/lib.rt:130:17
 mul-l : tie.Need-mul-l Inv-loop μ-loop
 mul-l c = search needs
 
--- src/lib.rt:130:17
 element-copy-out-l : tie.Need-element-copy-out-l Inv-loop μ-loop
 element-copy-out-l c = search needs
 
--- src/lib.rt:131:26
 filed-requires : tie.Need-filed-requires Inv-loop μ-loop
 filed-requires c κs = search needs
 
--- src/lib.rt:131:48
 array-read-bid-of : tie.Need-array-read-bid-of Inv-loop μ-loop
 array-read-bid-of c = search needs
 
--- src/lib.rt:131:63
 mul-bid-of : tie.Need-mul-bid-of Inv-loop μ-loop
 mul-bid-of c = search needs
 
--- src/lib.rt:131:63
 element-copy-out-bid-of : tie.Need-element-copy-out-bid-of Inv-loop μ-loop
 element-copy-out-bid-of c = search needs
 
--- src/lib.rt:131:13
 bid-of-requires : tie.Need-bid-of-requires Inv-loop μ-loop
 bid-of-requires c κs = search needs
 
--- src/lib.rt:132:18
 accept-requires : tie.Need-accept-requires Inv-loop μ-loop
 accept-requires c κs = search needs
 
--- src/lib.rt:132:9
 mul-all : tie.Need-mul-all Inv-loop μ-loop
 mul-all c = search needs
 
--- src/lib.rt:132:9
 array-set-from-all : tie.Need-array-set-from-all Inv-loop μ-loop
 array-set-from-all c = search needs
 
--- src/lib.rt:133:9
 add-k : tie.Need-add-k Inv-loop μ-loop
 add-k c = search needs
 
--- src/lib.rt:126:5
 loop-less : tie.Need-loop-less Inv-loop μ-loop
 loop-less c = search needs
 
--- src/lib.rt:126:5
 loop-again : tie.Need-loop-again Inv-loop μ-loop
-loop-again c = let s = c .before .before .before .before .before .before .before .before .before in let a = s .args in let v = c .before .before .before .before .before .before .before .loop in let k = v .k in (search needs, (search needs, filled-next (λ j x. x ≡ accepted (recordOf (a .t1) (j / 8) (j % 8)) (bidOn (a .t1) (j / 8) (j % 8))) nowhere (v .all) k (c .accept .result) (omega (arith, v .inv .1 .0, c .before .before .before .before .before .before .loop-test .taken)) (accepted-here (a .t1) (a .t2) (s .pre) k (mod-lt k (omega arith)) (c .before .bid-of .result) (c .accept .result) (c .before .bid-of .ensures ∙ ap (λ t. cond t (getD (a .t1 .bids) k noLine) (defaultLine (isOne (a .t2) (k % 8)) (beforeAt (a .t1) (k % 8)) (recordAt (a .t1 .records) k))) (c .before .before .before .filed .ensures)) (c .accept .ensures)) (v .inv .1 .1)))
+loop-again c =
+    let s = c .before .before .before .before .before .before .before .before .before in
+    let a = s .args in
+    let v = c .before .before .before .before .before .before .before .loop in
+    let k = v .k in (
+      search needs,
+      (
+        search needs,
+        filled-next (λ j x. x ≡ accepted (recordOf (a .t1) (j / 8) (j % 8)) (bidOn (a .t1) (j / 8) (j %
+            8))) nowhere (v .all) k (c .accept .result) (omega (
+              arith,
+              v .inv .1 .0,
+              c .before .before .before .before .before .before
+                  .loop-test .taken,
+            )) (accepted-here (a .t1) (a .t2) (s .pre) k (mod-lt k (omega arith)) (c .before .bid-of .result) (c .accept
+            .result) (c .before .bid-of .ensures ∙ ap (λ t. cond t (getD (a .t1 .bids) k noLine)
+            (defaultLine (isOne (a .t2) (k % 8)) (beforeAt (a .t1) (k % 8)) (recordAt (a .t1 .records) k))) (c .before .before .before
+            .filed .ensures)) (c .accept .ensures)) (v .inv .1 .1),
+      ),
+    )
 
--- src/lib.rt:119:1
 returns : tie.Need-returns Inv-loop μ-loop
-returns c = let a = c .before .before .before .args in let v = c .before .loop in list-is (λ k. accepted (recordOf (a .t1) (k / 8) (k % 8)) (bidOn (a .t1) (k / 8) (k % 8))) nowhere 256 (v .all) (v .inv .1 .0) (λ i l. v .inv .1 .1 i (omega (arith, l, c .loop-test .left)))
+returns c =
+    let a = c .before .before .before .args in
+    let v = c .before .loop in
+    list-is (λ k. accepted (recordOf (a .t1) (k / 8) (k % 8)) (bidOn (a .t1) (k / 8) (k % 8))) nowhere 256 (v .all) (v .inv .1 .0)
+    (λ i l. v .inv .1 .1 i (omega (arith, l, c .loop-test .left)))
 
 pub accept-all-spec : {M : Type 1} → statement M
 accept-all-spec =

@@ -1,57 +1,62 @@
-use Rattle.rules.specs.Settings.{targetOf}
-use Rattle.rules.specs.Price.{nextPrice}
-use Rattle.rules.specs.Bid.{priceAt}
-use Rattle.rules.specs.Held.{standingOf}
-use Rattle.rules.proofs.Lists.{list-is}
-use Rattle.keep.proofs.Laws.{filled-next}
-use lib.ListN.{getD, length}
-use mathlib.Core.Path.{_≡_, refl, sym, _∙_, ap, subst}
-use Prim.Native.Nat.{ℕ, suc, _+_, _≤_, _<_, _*_, _-_, _/_, _%_}
+use mathlib.Core.Path.{_≡_}
+use Prim.Native.Nat.{ℕ, _≤_, _<_, _-_}
 use native.Mathlib.Omega.{arith}
 use borrow.Author.Needs.{needs}
+use lib.ListN.{getD, length}
+use Rattle.rules.specs.Bid.{priceAt}
+use Rattle.rules.specs.Held.{standingOf}
+use Rattle.rules.specs.Price.{nextPrice}
+use Rattle.rules.specs.Settings.{targetOf}
+use Rattle.rules.proofs.Lists.{list-is}
+use Rattle.keep.proofs.Laws.{filled-next}
 use Rattle.round.proofs.next_prices.Statement.{statement}
 use Rattle.round.proofs.next_prices.Tie as tie
-use Rattle.round.proofs.next_prices.Reads as reads
-use Rattle.round.proofs.next_prices.Lts as lts
-use Rattle.round.proofs.price_at.Reads as price-at-reads
 
 abbrev Inv-loop : tie.InvT-loop
-Inv-loop a all₀ p₀ all p = (p ≤ 8) × ((length all ≡ 8) × ((j : ℕ) → j < p → getD all j 0 ≡ nextPrice (a .terms) (standingOf a j) (targetOf (a .terms) j) (priceAt a j)))
+Inv-loop a all₀ p₀ all p =
+    (p ≤ 8) × ((length all ≡ 8) ×
+    ((j : ℕ) → j < p → getD all j 0 ≡ nextPrice (a .terms) (standingOf a j) (targetOf (a .terms) j) (priceAt a j)))
 
 abbrev μ-loop : tie.MeasureT-loop
 μ-loop a all₀ p₀ all p = 8 - p
 
--- src/lib.rt:157:5
 loop-holds : tie.Need-loop-holds Inv-loop μ-loop
 loop-holds c = (search needs, (search needs, λ j l. absurd (let z : ⊥ = omega arith in z)))
 
--- src/lib.rt:158:18
 price-at-requires : tie.Need-price-at-requires Inv-loop μ-loop
 price-at-requires c κs = search needs
 
--- src/lib.rt:158:9
 mul-all : tie.Need-mul-all Inv-loop μ-loop
 mul-all c = search needs
 
--- src/lib.rt:158:9
 array-write-all : tie.Need-array-write-all Inv-loop μ-loop
 array-write-all c = search needs
 
--- src/lib.rt:159:9
 add-p : tie.Need-add-p Inv-loop μ-loop
 add-p c = search needs
 
--- src/lib.rt:157:5
 loop-less : tie.Need-loop-less Inv-loop μ-loop
 loop-less c = search needs
 
--- src/lib.rt:157:5
 loop-again : tie.Need-loop-again Inv-loop μ-loop
-loop-again c = let a = c .before .before .before .args .a in let v = c .before .before .loop in (search needs, (search needs, filled-next (λ j x. x ≡ nextPrice (a .terms) (standingOf a j) (targetOf (a .terms) j) (priceAt a j)) 0 (v .all) (v .p) (c .price-at .result) (omega (arith, v .inv .1 .0, c .before .loop-test .taken)) (c .price-at .ensures) (v .inv .1 .1)))
+loop-again c =
+    let a = c .before .before .before .args .a in
+    let v = c .before .before .loop in (
+      search needs,
+      (
+        search needs,
+        filled-next
+            (λ j x. x ≡ nextPrice (a .terms) (standingOf a j) (targetOf (a .terms) j) (priceAt a j)) 0 (v .all) (v .p) (c .price-at .result)
+            (omega (arith, v .inv .1 .0, c .before .loop-test .taken)) (c .price-at .ensures) (v .inv .1 .1),
+      ),
+    )
 
--- src/lib.rt:151:1
 returns : tie.Need-returns Inv-loop μ-loop
-returns c = let a = c .before .before .args .a in let v = c .before .loop in list-is (λ j. nextPrice (a .terms) (standingOf a j) (targetOf (a .terms) j) (priceAt a j)) 0 8 (v .all) (v .inv .1 .0) (λ i l. v .inv .1 .1 i (omega (arith, l, c .loop-test .left)))
+returns c =
+    let a = c .before .before .args .a in
+    let v = c .before .loop in
+    list-is (λ j. nextPrice (a .terms) (standingOf a j) (targetOf (a .terms) j) (priceAt a j)) 0 8 (v .all) (v .inv .1 .0)
+    (λ i l. v .inv .1 .1 i (omega (arith, l, c .loop-test .left)))
 
 pub next-prices-spec : {M : Type 1} → statement M
 next-prices-spec =

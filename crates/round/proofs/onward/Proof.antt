@@ -1,27 +1,21 @@
-use Rattle.round.proofs.Whole.{onward-is}
 use borrow.Author.Needs.{needs}
+use Rattle.round.proofs.Whole.{onward-is}
 use Rattle.round.proofs.onward.Statement.{statement}
 use Rattle.round.proofs.onward.Tie as tie
-use Rattle.round.proofs.onward.Reads as reads
-use Rattle.round.proofs.onward.Lts as lts
-use Rattle.round.proofs.next_befores.Reads as next-befores-reads
-use Rattle.round.proofs.next_prices.Reads as next-prices-reads
 
--- src/lib.rt:223:9
 next-prices-requires : tie.Need-next-prices-requires
 next-prices-requires c κs = search needs
 
--- src/lib.rt:224:9
 next-befores-requires : tie.Need-next-befores-requires
 next-befores-requires c κs = search needs
 
--- src/lib.rt:227:18
 add-next : tie.Need-add-next
 add-next c = search needs
 
--- src/lib.rt:219:1
 returns : tie.Need-returns
-returns c = onward-is (c .before .before .before .args .a) (c .before .before .next-prices .result) (c .before .next-befores .result) (c .before .before .next-prices .ensures) (c .before .next-befores .ensures)
+returns c =
+    onward-is (c .before .before .before .args .a) (c .before .before .next-prices .result) (c .before .next-befores .result)
+    (c .before .before .next-prices .ensures) (c .before .next-befores .ensures)
 
 pub onward-spec : {M : Type 1} → statement M
 onward-spec = tie.close (tie.spec next-prices-requires next-befores-requires add-next returns)

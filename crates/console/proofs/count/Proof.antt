@@ -1,0 +1,38 @@
+use Rattle.rules.specs.declared.Count.the-variants.{ToFile, Refused}
+use Rattle.console.proofs.Fitting.{few}
+use native.Mathlib.Omega.{arith}
+use Rattle.console.proofs.Answering.{refuses-with, answers-with}
+use Rattle.rules.specs.Calls.{openNumberOf, toFile, countCall}
+use denote.Ref.{now}
+use mathlib.Core.Path.{ap}
+use Rattle.console.proofs.StateLaws.{Stood, stood-by}
+use borrow.Author.Needs.{needs}
+use Rattle.console.proofs.count.Statement.{statement}
+use Rattle.console.proofs.count.Tie as tie
+
+count-number-requires : tie.Need-count-number-requires
+count-number-requires c κs = search needs
+
+returns : tie.Need-returns
+unfolding countCall
+returns c = refuses-with _ _ _ Refused (c .before .count-number .ensures) (c .if1 .taken)
+
+stood : (c : tie.Else1) → Stood (now (c .before .before .before .args .s))
+stood c = stood-by _ 3 openNumberOf (omega arith) _ (c .before .count-number .ensures) (c .if1 .left) .0
+
+load-requires : tie.Need-load-requires
+load-requires c κs = stood c .long
+
+cast-t5 : tie.Need-cast-t5
+cast-t5 c = search needs
+
+sub-t7 : tie.Need-sub-t7
+sub-t7 c = rw (c .before .before .load .ensures) (few _ (stood (c .before .before .before)) (record { small = λ i. c .before .before .before .before .before .shared-slice-known .given i .fits }))
+
+returns-2 : tie.Need-returns-2
+unfolding countCall
+returns-2 c = answers-with _ _ _ Refused _ (c .before .before .before .before .count-number .ensures) (c .before .before .before .if1 .left) (ap (λ a. ToFile (toFile a)) (c .before .before .load .ensures))
+
+pub count-spec : {M : Type 1} → statement M
+count-spec =
+    tie.close (tie.spec count-number-requires returns load-requires cast-t5 sub-t7 returns-2)

@@ -1,0 +1,30 @@
+use borrow.Author.Tests.{eq-eqb, ne-eqb}
+use Rattle.rules.specs.Calls.{openNumberOf}
+use denote.Ref.{now}
+use mathlib.Core.Path.{refl}
+use Rattle.console.proofs.StateLaws.{Stood, standing, not-standing, said}
+use borrow.Author.Needs.{needs}
+use Rattle.console.proofs.count_number.Statement.{statement}
+use Rattle.console.proofs.count_number.Tie as tie
+
+state-number-requires : tie.Need-state-number-requires
+state-number-requires c κs = search needs
+
+returns : tie.Need-returns
+returns c = not-standing (now (c .before .before .before .args .s)) _ 3 openNumberOf (c .before .state-number .ensures) (c .if1 .taken) (λ z. refl)
+
+stood : (c : tie.Else1) → Stood (now (c .before .before .before .args .s))
+stood c = standing _ _ (c .before .state-number .ensures) (c .if1 .left)
+
+load-requires : tie.Need-load-requires
+load-requires c κs = stood c .long
+
+returns-2 : tie.Need-returns-2
+returns-2 c = said _ (stood (c .before .before .before)) _ (c .before .before .load .ensures) 3 openNumberOf 0 (search eq-eqb)
+
+returns-3 : tie.Need-returns-3
+returns-3 c = said _ (stood (c .before .before .before)) _ (c .before .before .load .ensures) 3 openNumberOf 3 (search ne-eqb)
+
+pub count-number-spec : {M : Type 1} → statement M
+count-number-spec =
+    tie.close (tie.spec state-number-requires returns load-requires returns-2 returns-3)

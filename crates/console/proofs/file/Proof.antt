@@ -1,0 +1,56 @@
+use Rattle.rules.specs.Layout.{stored}
+use native.Mathlib.Omega.{arith}
+use Rattle.console.proofs.Answering.{refuses, does}
+use Rattle.rules.specs.Calls.{cardNumber, afterCard, fileCall}
+use denote.Ref.{now}
+use mathlib.Core.Path.{_∙_, ap}
+use Rattle.console.proofs.StateLaws.{Stood, stood-by}
+use borrow.Author.Needs.{needs}
+use Rattle.console.proofs.file.Statement.{statement}
+use Rattle.console.proofs.file.Tie as tie
+
+file-number-requires : tie.Need-file-number-requires
+file-number-requires c κs = search needs
+
+same-length : tie.Need-same-length
+same-length c = search needs
+
+returns : tie.Need-returns
+unfolding fileCall
+returns c = refuses _ _ _ _ (c .before .file-number .ensures) (c .if1 .taken)
+
+stood : (c : tie.Else1) → Stood (now (c .before .before .before .before .before .args .s))
+stood c =
+    stood-by _ 3 (cardNumber (now (c .before .before .before .before .before .args .card))) (omega arith) _ (c .before .file-number .ensures) (c .if1 .left) .0
+
+load-requires : tie.Need-load-requires
+load-requires c κs = stood (c .before) .long
+
+after-card-requires : tie.Need-after-card-requires
+after-card-requires c κs = search needs
+
+store-requires : tie.Need-store-requires
+store-requires c κs = stood (c .before .before .before .before) .long
+
+same-length-2 : tie.Need-same-length-2
+same-length-2 c = search needs
+
+returns-2 : tie.Need-returns-2
+unfolding fileCall
+returns-2 c =
+    let d = c .before .before .before .before .before .before .before in
+    does _ _ _ _ _ (d .before .file-number .ensures) (d .if1 .left)
+    (c .before .before .store .ensures ∙ ap stored (c .before .before .before .before .after-card .ensures ∙ ap (afterCard (now (d .before .before .before .before .before .args .card))) (c .before .before .before .before .before .load .ensures)))
+
+pub file-spec : {M : Type 1} → statement M
+file-spec =
+    tie.close
+    (tie.spec
+    file-number-requires
+    same-length
+    returns
+    load-requires
+    after-card-requires
+    store-requires
+    same-length-2
+    returns-2)
