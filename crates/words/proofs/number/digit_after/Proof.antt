@@ -1,0 +1,65 @@
+use borrow.Author.Tests.{lt-ltb, le-ltb, le-leb, lt-leb}
+use borrow.Author.Needs.{needs}
+use Rattle.words.proofs.number.digit_after.Statement.{statement}
+use Rattle.words.proofs.number.digit_after.Tie as tie
+
+returns : tie.Need-returns
+returns c = search (lt-ltb, le-ltb, le-leb, lt-leb)
+
+returns-2 : tie.Need-returns-2
+returns-2 c = search (lt-ltb, le-ltb, le-leb, lt-leb)
+
+enum-known-n : tie.Need-enum-known-n
+enum-known-n c = search needs
+
+cast-d : tie.Need-cast-d
+cast-d c = search needs
+
+cast-w : tie.Need-cast-w
+cast-w c = search needs
+
+mul-w : tie.Need-mul-w
+mul-w c = search needs
+
+add-w : tie.Need-add-w
+add-w c = search needs
+
+cast-t13 : tie.Need-cast-t13
+cast-t13 c = search needs
+
+enum-told : tie.Need-enum-told
+enum-told c = search needs
+
+enum-told-2 : tie.Need-enum-told-2
+enum-told-2 c = search needs
+
+returns-3 : tie.Need-returns-3
+returns-3 c = search (lt-ltb, le-ltb, le-leb, lt-leb, c .before .before .n .given .1)
+
+returns-4 : tie.Need-returns-4
+returns-4 c = search (lt-ltb, le-ltb, le-leb, lt-leb, c .before .before .n .given .1)
+
+returns-5 : tie.Need-returns-5
+returns-5 c = search (lt-ltb, le-ltb, le-leb, lt-leb, c .enum-told .given .1)
+
+returns-6 : tie.Need-returns-6
+returns-6 c = search (lt-ltb, le-ltb, le-leb, lt-leb, c .enum-told2 .given .1)
+
+pub digit-after-spec : {M : Type 1} → statement M
+digit-after-spec =
+    tie.close
+    (tie.spec
+    returns
+    returns-2
+    enum-known-n
+    cast-d
+    cast-w
+    mul-w
+    add-w
+    cast-t13
+    enum-told
+    enum-told-2
+    returns-3
+    returns-4
+    returns-5
+    returns-6)

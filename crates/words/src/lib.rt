@@ -1,0 +1,66 @@
+// Words of a line. A byte up to 32 is a space, any other byte is part of a word.
+mod byte;
+mod input;
+mod number;
+
+pub use byte::Pair;
+pub use byte::take_byte;
+pub use input::Input;
+pub use input::keep_rest;
+pub use input::next_end;
+pub use number::Take;
+pub use number::take_number;
+ghost use mathlib.Core.Path.{_≡_};
+ghost use Prim.Native.Nat.{_≤_, _-_};
+ghost use lib.ListN.{length};
+ghost use Rattle.words.specs.Words.{goesOn, runEnd, spanAt};
+
+// A place in a line.
+pub struct Cursor {
+    pub at: usize,
+}
+
+// A word: its first place, and the one past its last. Both are the line's length where there is none.
+pub struct Span {
+    pub from: usize,
+    pub to: usize,
+}
+
+// Whether a byte belongs to a run of spaces, or to a run of other bytes.
+pub fn goes_on(b: u8, spaces: bool) -> bool
+    ensures { λ r. ⌜ r ≡ goesOn b spaces ⌝ }
+{
+    if spaces { b <= 32 } else { 32 < b }
+}
+
+// The first place from `at` on at which the run stops, or the line's length.
+pub fn run_end(s: &[u8], spaces: bool, at: usize) -> usize
+    requires { ⌜ at ≤ length (now s) ⌝ }
+    ensures { λ r. ⌜ (r ≡ runEnd (now (s .entry)) spaces at (length (now (s .entry)) - at)) × ((at ≤ r) × (r ≤ length (now (s .entry)))) ⌝ }
+{
+    let mut i = at;
+    while i < s.len() {
+        if goes_on(s[i], spaces) {
+            i += 1;
+        } else {
+            return i;
+        }
+    }
+    i
+}
+
+// The next word from a cursor on; one past the end of the line counts as its end.
+pub fn word(s: &[u8], c: Cursor) -> Span
+    ensures { λ r. ⌜ (r ≡ spanAt (now (s .entry)) (c .at)) × ((r .from ≤ r .to) × (r .to ≤ length (now (s .entry)))) ⌝ }
+{
+    let at = c.at;
+    if s.len() < at {
+        return Span {
+            from: s.len(),
+            to: s.len(),
+        };
+    }
+    let a = run_end(s, true, at);
+    let e = run_end(s, false, a);
+    Span { from: a, to: e }
+}
