@@ -3,14 +3,7 @@
 ghost use mathlib.Core.Path.{_≡_};
 ghost use Rattle.rules.specs.Calls.{openCall, fileNumber, fileCall, countNumber, countCall, calculateNumber, calculateCall, reportNumber, reportCall, resultNumber, resultCall, returnCall, readCall, writeCall};
 ghost use Rattle.console.specs.State.{stateNumber};
-use rules::Answer;
-use rules::Awarded;
-use rules::Calculation;
-use rules::CardRead;
-use rules::Count;
-use rules::Line;
-use rules::Reported;
-use rules::Settings;
+use rules::{Answer, Awarded, Calculation, CardRead, Count, Line, Reported, Settings};
 
 // 1, 2, and 3 for an issued state, which has no auction; 0 where the state stands.
 fn state_number(s: &[u8]) -> u8
@@ -92,7 +85,8 @@ pub fn count(s: &[u8]) -> Count
         return Count::Refused(n);
     }
     let a = state::load(s);
-    Count::ToFile(a.terms.bidders as u32 - u32::count_ones(a.filed))
+    let still = a.terms.bidders as u32 - u32::count_ones(a.filed);
+    Count::ToFile(still)
 }
 
 fn calculate_number(s: &[u8], draw: &[u8]) -> u8

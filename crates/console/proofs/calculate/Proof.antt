@@ -35,10 +35,10 @@ same-length-2 c = search needs
 
 returns-2 : tie.Need-returns-2
 returns-2 c =
-    let d = c .before .before .before .before .before .before .before .before in
+    let e = c .before .before .before .before .before in
+    let d = e .before .before .before in
     calculate-done _ _ _ (d .before .calculate-number .ensures) (d .if1 .left) _
-    (c .before .before .before .before .before .calculate .ensures ∙ ap (λ a. calculated a (now (d .before .before .before .before .before .args .draw))) (c .before .before .before .before .before .before .load .ensures)) _
-    (c .before .before .store .ensures)
+    (e .calculate .ensures ∙ ap (λ a. calculated a (now (d .before .before .before .before .before .args .draw))) (e .before .load .ensures)) _ (c .before .before .store .ensures)
 
 pub calculate-spec : {M : Type 1} → statement M
 calculate-spec =

@@ -1,7 +1,8 @@
-use mathlib.Core.Path.{refl}
+use Prim.Native.Nat.{ℕ}
+use mathlib.Core.Path.{_≡_, refl}
 use denote.Ref.{now}
 use borrow.Author.Tests.{eq-eqb, ne-eqb}
-use Rattle.rules.specs.Calls.{drawNumber}
+use Rattle.rules.specs.Calls.{drawNumber, calculateNumber}
 use Rattle.console.proofs.StateLaws.{Stood, standing, not-standing, said}
 use borrow.Author.Needs.{needs}
 use Rattle.console.proofs.calculate_number.Statement.{statement}
@@ -11,7 +12,9 @@ state-number-requires : tie.Need-state-number-requires
 state-number-requires c κs = search needs
 
 returns : tie.Need-returns
-returns c = not-standing (now (c .before .before .before .before .args .s)) _ 3 (drawNumber (now (c .before .before .before .before .args .draw))) (c .before .state-number .ensures) (c .if1 .taken) (λ z. refl)
+returns c =
+    let d = c .before in
+    not-standing (now (d .before .before .before .args .s)) _ 3 (drawNumber (now (d .before .before .before .args .draw))) (d .state-number .ensures) (c .if1 .taken) (λ z. refl)
 
 stood : (c : tie.Else1) → Stood (now (c .before .before .before .before .args .s))
 stood c = standing _ _ (c .before .state-number .ensures) (c .if1 .left)
@@ -19,8 +22,12 @@ stood c = standing _ _ (c .before .state-number .ensures) (c .if1 .left)
 load-requires : tie.Need-load-requires
 load-requires c κs = stood c .long
 
+answered : (c : tie.After-load) → let a = c .before .before .before .before .before .args in (n : ℕ) → n ≡ drawNumber (now (a .draw)) (c .load .result)
+    → n ≡ calculateNumber (now (a .s)) (now (a .draw))
+answered c n h = said _ (stood (c .before)) _ (c .load .ensures) 3 (drawNumber (now (c .before .before .before .before .before .args .draw))) n h
+
 returns-2 : tie.Need-returns-2
-returns-2 c = said _ (stood (c .before .before .before)) _ (c .before .before .load .ensures) 3 (drawNumber (now (c .before .before .before .before .before .before .before .args .draw))) 3 (search ne-eqb)
+returns-2 c = answered (c .before .before) 3 (search ne-eqb)
 
 cast-draw-fits : tie.Need-cast-draw-fits
 cast-draw-fits c = search needs
@@ -29,10 +36,14 @@ draw-fits-requires : tie.Need-draw-fits-requires
 draw-fits-requires c κs = search needs
 
 returns-3 : tie.Need-returns-3
-returns-3 c = said _ (stood (c .before .before .before .before .before .before)) _ (c .before .before .before .before .before .load .ensures) 3 (drawNumber (now (c .before .before .before .before .before .before .before .before .before .before .args .draw))) 0 (rw (eq-eqb _ 1 (c .before .before .before .if2 .left), ← c .before .draw-fits .ensures, c .if3 .taken))
+returns-3 c =
+    let d = c .before .before .before in
+    answered (d .before .before) 0 (rw (eq-eqb _ 1 (d .if2 .left), ← c .before .draw-fits .ensures, c .if3 .taken))
 
 returns-4 : tie.Need-returns-4
-returns-4 c = said _ (stood (c .before .before .before .before .before .before)) _ (c .before .before .before .before .before .load .ensures) 3 (drawNumber (now (c .before .before .before .before .before .before .before .before .before .before .args .draw))) 14 (rw (eq-eqb _ 1 (c .before .before .before .if2 .left), ← c .before .draw-fits .ensures, c .if3 .left))
+returns-4 c =
+    let d = c .before .before .before in
+    answered (d .before .before) 14 (rw (eq-eqb _ 1 (d .if2 .left), ← c .before .draw-fits .ensures, c .if3 .left))
 
 pub calculate-number-spec : {M : Type 1} → statement M
 calculate-number-spec =

@@ -23,16 +23,20 @@ stood c = stood-by _ 3 openNumberOf (omega arith) _ (c .before .count-number .en
 load-requires : tie.Need-load-requires
 load-requires c κs = stood c .long
 
-cast-t5 : tie.Need-cast-t5
-cast-t5 c = search needs
+cast-still : tie.Need-cast-still
+cast-still c = search needs
 
-sub-t7 : tie.Need-sub-t7
-sub-t7 c = rw (c .before .before .load .ensures) (few _ (stood (c .before .before .before)) (record { small = λ i. c .before .before .before .before .before .shared-slice-known .given i .fits }))
+sub-still : tie.Need-sub-still
+sub-still c =
+    let d = c .before .before .before in
+    rw (c .before .before .load .ensures) (few _ (stood d) (record { small = λ i. d .before .before .shared-slice-known .given i .fits }))
 
 returns-2 : tie.Need-returns-2
 unfolding countCall
-returns-2 c = answers-with _ _ _ Refused _ (c .before .before .before .before .count-number .ensures) (c .before .before .before .if1 .left) (ap (λ a. ToFile (toFile a)) (c .before .before .load .ensures))
+returns-2 c =
+    let d = c .before .before .before in
+    answers-with _ _ _ Refused _ (d .before .count-number .ensures) (d .if1 .left) (ap (λ a. ToFile (toFile a)) (c .before .before .load .ensures))
 
 pub count-spec : {M : Type 1} → statement M
 count-spec =
-    tie.close (tie.spec count-number-requires returns load-requires cast-t5 sub-t7 returns-2)
+    tie.close (tie.spec count-number-requires returns load-requires cast-still sub-still returns-2)

@@ -1,7 +1,8 @@
 use borrow.Author.Tests.{eq-eqb, ne-eqb}
-use Rattle.rules.specs.Calls.{openNumberOf}
+use Rattle.rules.specs.Calls.{openNumberOf, countNumber}
 use denote.Ref.{now}
-use mathlib.Core.Path.{refl}
+use Prim.Native.Nat.{ℕ}
+use mathlib.Core.Path.{_≡_, refl}
 use Rattle.console.proofs.StateLaws.{Stood, standing, not-standing, said}
 use borrow.Author.Needs.{needs}
 use Rattle.console.proofs.count_number.Statement.{statement}
@@ -19,11 +20,14 @@ stood c = standing _ _ (c .before .state-number .ensures) (c .if1 .left)
 load-requires : tie.Need-load-requires
 load-requires c κs = stood c .long
 
+answered : (c : tie.After-load) (n : ℕ) → n ≡ openNumberOf (c .load .result) → n ≡ countNumber (now (c .before .before .before .before .args .s))
+answered c n h = said _ (stood (c .before)) _ (c .load .ensures) 3 openNumberOf n h
+
 returns-2 : tie.Need-returns-2
-returns-2 c = said _ (stood (c .before .before .before)) _ (c .before .before .load .ensures) 3 openNumberOf 0 (search eq-eqb)
+returns-2 c = answered (c .before .before) 0 (search eq-eqb)
 
 returns-3 : tie.Need-returns-3
-returns-3 c = said _ (stood (c .before .before .before)) _ (c .before .before .load .ensures) 3 openNumberOf 3 (search ne-eqb)
+returns-3 c = answered (c .before .before) 3 (search ne-eqb)
 
 pub count-number-spec : {M : Type 1} → statement M
 count-number-spec =

@@ -38,9 +38,10 @@ same-length-2 c = search needs
 returns-2 : tie.Need-returns-2
 unfolding fileCall
 returns-2 c =
-    let d = c .before .before .before .before .before .before .before in
+    let e = c .before .before .before .before in
+    let d = e .before .before .before in
     does _ _ _ _ _ (d .before .file-number .ensures) (d .if1 .left)
-    (c .before .before .store .ensures ∙ ap stored (c .before .before .before .before .after-card .ensures ∙ ap (afterCard (now (d .before .before .before .before .before .args .card))) (c .before .before .before .before .before .load .ensures)))
+    (c .before .before .store .ensures ∙ ap stored (e .after-card .ensures ∙ ap (afterCard (now (d .before .before .before .before .before .args .card))) (e .before .load .ensures)))
 
 pub file-spec : {M : Type 1} → statement M
 file-spec =

@@ -11,7 +11,9 @@ state-number-requires : tie.Need-state-number-requires
 state-number-requires c κs = search needs
 
 returns : tie.Need-returns
-returns c = not-standing (now (c .before .before .before .before .args .s)) _ 3 (cardNumber (now (c .before .before .before .before .args .card))) (c .before .state-number .ensures) (c .if1 .taken) (λ z. refl)
+returns c =
+    let d = c .before in
+    not-standing (now (d .before .before .before .args .s)) _ 3 (cardNumber (now (d .before .before .before .args .card))) (d .state-number .ensures) (c .if1 .taken) (λ z. refl)
 
 stood : (c : tie.Else1) → Stood (now (c .before .before .before .before .args .s))
 stood c = standing _ _ (c .before .state-number .ensures) (c .if1 .left)

@@ -31,7 +31,10 @@ result-of-requires c κs = let S = stood (c .before) in rw (c .load .ensures) (c
 
 returns-2 : tie.Need-returns-2
 unfolding resultCall
-returns-2 c = answers-with _ _ _ resultRefused _ (c .before .before .before .result-number .ensures) (c .before .before .if1 .left) (c .result-of .ensures ∙ ap resultOf (c .before .load .ensures))
+returns-2 c =
+    let d = c .before .before in
+    answers-with _ _ _ resultRefused _ (d .before .result-number .ensures) (d .if1 .left)
+    (c .result-of .ensures ∙ ap resultOf (c .before .load .ensures))
 
 pub result-spec : {M : Type 1} → statement M
 result-spec =

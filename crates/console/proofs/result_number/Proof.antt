@@ -1,5 +1,7 @@
+use mathlib.Core.Path.{_≡_}
+use Prim.Native.Nat.{ℕ}
 use borrow.Author.Tests.{eq-eqb, ne-eqb}
-use Rattle.rules.specs.Calls.{closedNumber}
+use Rattle.rules.specs.Calls.{closedNumber, resultNumber}
 use denote.Ref.{now}
 use Rattle.console.proofs.StateLaws.{Stood, standing, not-standing, issued, said}
 use borrow.Author.Needs.{needs}
@@ -13,7 +15,9 @@ returns : tie.Need-returns
 returns c = issued (now (c .before .before .before .args .s)) _ 16 closedNumber (c .before .state-number .ensures) (c .if1 .taken)
 
 returns-2 : tie.Need-returns-2
-returns-2 c = not-standing (now (c .before .before .before .before .args .s)) _ 16 closedNumber (c .before .before .state-number .ensures) (c .if2 .taken) (λ z. absurd (c .before .if1 .left z))
+returns-2 c =
+    let d = c .before .before in
+    not-standing (now (d .before .before .args .s)) _ 16 closedNumber (d .state-number .ensures) (c .if2 .taken) (λ z. absurd (c .before .if1 .left z))
 
 stood : (c : tie.Else2) → Stood (now (c .before .before .before .before .args .s))
 stood c = standing _ _ (c .before .before .state-number .ensures) (c .if2 .left)
@@ -21,11 +25,14 @@ stood c = standing _ _ (c .before .before .state-number .ensures) (c .if2 .left)
 load-requires : tie.Need-load-requires
 load-requires c κs = stood c .long
 
+answered : (c : tie.After-load) (n : ℕ) → n ≡ closedNumber (c .load .result) → n ≡ resultNumber (now (c .before .before .before .before .before .args .s))
+answered c n h = said _ (stood (c .before)) _ (c .load .ensures) 16 closedNumber n h
+
 returns-3 : tie.Need-returns-3
-returns-3 c = said _ (stood (c .before .before .before)) _ (c .before .before .load .ensures) 16 closedNumber 0 (search eq-eqb)
+returns-3 c = answered (c .before .before) 0 (search eq-eqb)
 
 returns-4 : tie.Need-returns-4
-returns-4 c = said _ (stood (c .before .before .before)) _ (c .before .before .load .ensures) 16 closedNumber 16 (search ne-eqb)
+returns-4 c = answered (c .before .before) 16 (search ne-eqb)
 
 pub result-number-spec : {M : Type 1} → statement M
 result-number-spec =

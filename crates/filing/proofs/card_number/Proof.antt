@@ -24,13 +24,17 @@ refusal-requires : tie.Need-refusal-requires
 refusal-requires c κs = search needs
 
 returns-2 : tie.Need-returns-2
-returns-2 c = let a = c .before .before .before .before .before .before .before .before .before .args in c .refusal .ensures ∙ refused-number (a .a) _ _ (search needs) (c .before .before .before .before .read .ensures) _ (c .before .enum-told .given .1)
+returns-2 c =
+    let d = c .before .before .before .before in
+    c .refusal .ensures ∙ refused-number (d .before .before .before .before .before .args .a) _ _ (search needs) (d .read .ensures) _ (c .before .enum-told .given .1)
 
 bid-number-requires : tie.Need-bid-number-requires
 bid-number-requires c κs = search needs
 
 returns-3 : tie.Need-returns-3
-returns-3 c = let a = c .before .before .before .before .before .before .before .before .before .before .args in c .bid-number .ensures ∙ bid-number (a .a) _ _ (search needs) (c .before .before .before .before .before .read .ensures) _ _ (c .before .before .answer .given .1)
+returns-3 c =
+    let d = c .before .before .before .before .before in
+    c .bid-number .ensures ∙ bid-number (d .before .before .before .before .before .args .a) _ _ (search needs) (d .read .ensures) _ _ (c .before .before .answer .given .1)
 
 pub card-number-spec : {M : Type 1} → statement M
 card-number-spec =

@@ -43,7 +43,10 @@ loop-less : tie.Need-loop-less Inv-loop μ-loop
 loop-less c = search needs
 
 loop-again : tie.Need-loop-again Inv-loop μ-loop
-loop-again c = let d = c .before .before .loop in let h : d .p < length (c .before .before .before .args .t3) = search needs in (search needs, (simp length-set (d .inv .1 .0), one-stored noLine _ _ _ _ _ _ h (d .inv .1 .1)))
+loop-again c =
+    let d = c .before .before in
+    let h : d .loop .p < length (d .before .args .t3) = search needs in
+    (search needs, (simp length-set (d .loop .inv .1 .0), one-stored noLine _ _ _ _ _ _ h (d .loop .inv .1 .1)))
 
 returns : tie.Need-returns Inv-loop μ-loop
 returns c = let d = c .before .loop in let h : d .p ≡ length (c .before .before .args .t3) = search needs in all-stored _ _ _ _ _ h (d .inv .1 .1)
