@@ -3,7 +3,14 @@
 ghost use mathlib.Core.Path.{_≡_};
 ghost use Rattle.rules.specs.Calls.{openCall, fileNumber, fileCall, countNumber, countCall, calculateNumber, calculateCall, reportNumber, reportCall, resultNumber, resultCall, returnCall, readCall, writeCall};
 ghost use Rattle.console.specs.State.{stateNumber};
-use rules::{Answer, Awarded, Calculation, CardRead, Count, Line, Reported, Settings};
+use rules::Answer;
+use rules::Awarded;
+use rules::Calculation;
+use rules::CardRead;
+use rules::Count;
+use rules::Line;
+use rules::Reported;
+use rules::Settings;
 
 // 1, 2, and 3 for an issued state, which has no auction; 0 where the state stands.
 fn state_number(s: &[u8]) -> u8
