@@ -1,6 +1,4 @@
 // A console at a terminal: a line of input is a command, and it is answered as soon as it is read.
-mod calls;
-mod cards;
 
 use check::same;
 use prepare::Desk;
@@ -118,17 +116,17 @@ fn prepared(command: Command, line: &[u8], c: Cursor, desk: Desk) -> Desk {
 // The commands that make a call.
 fn call(command: Command, line: &[u8], c: Cursor, desk: Desk, state: &mut [u8; 3333]) {
     match command {
-        Command::Open => calls::open(line, c, desk, state),
-        Command::Bid => cards::bid(line, c, desk, state),
-        Command::Card => cards::card(line, c, desk, state),
-        Command::Read => cards::read(line, c),
-        Command::Write => cards::write(line, c, desk),
-        Command::Count => calls::count(line, c, desk, state),
-        Command::Calculate => calls::calculate(line, c, desk, state),
-        Command::Report => calls::report(line, c, desk, state),
-        Command::Result => calls::result(line, c, desk, state),
-        Command::Return => calls::return_box(line, c, desk, state),
-        Command::Poke => calls::poke(line, c, state),
+        Command::Open => calling::open(line, c, desk, state),
+        Command::Bid => carding::bid(line, c, desk, state),
+        Command::Card => carding::card(line, c, desk, state),
+        Command::Read => carding::read(line, c),
+        Command::Write => carding::write(line, c, desk),
+        Command::Count => calling::count(line, c, desk, state),
+        Command::Calculate => calling::calculate(line, c, desk, state),
+        Command::Report => calling::report(line, c, desk, state),
+        Command::Result => calling::result(line, c, desk, state),
+        Command::Return => calling::return_box(line, c, desk, state),
+        Command::Poke => calling::poke(line, c, state),
         _ => {}
     }
 }

@@ -1,7 +1,7 @@
 use Prim.Native.Nat.{_≤_, _-_}
 use borrow.Author.Needs.{needs}
-use Rattle.desk.proofs.calls.draw_of.Statement.{statement}
-use Rattle.desk.proofs.calls.draw_of.Tie as tie
+use Rattle.calling.proofs.draw_of.Statement.{statement}
+use Rattle.calling.proofs.draw_of.Tie as tie
 
 abbrev Inv-loop : tie.InvT-loop
 Inv-loop numbers draw₀ i₀ draw i = i ≤ 40

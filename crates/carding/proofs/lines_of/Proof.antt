@@ -1,7 +1,7 @@
 use Prim.Native.Nat.{_≤_, _-_}
 use borrow.Author.Needs.{needs}
-use Rattle.desk.proofs.cards.lines_of.Statement.{statement}
-use Rattle.desk.proofs.cards.lines_of.Tie as tie
+use Rattle.carding.proofs.lines_of.Statement.{statement}
+use Rattle.carding.proofs.lines_of.Tie as tie
 
 abbrev Inv-loop : tie.InvT-loop
 Inv-loop numbers all₀ p₀ all p = p ≤ 8

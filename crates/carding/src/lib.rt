@@ -1,5 +1,5 @@
 // The commands that write, read and file cards.
-use crate::calls::answered;
+use calling::answered;
 use prepare::Desk;
 use prepare::all_bytes;
 use prepare::all_numbers;
