@@ -46,7 +46,7 @@ fn bit_at(card: &[u8], place: usize) -> u8
 
 // The field of so many bits from a place on, or that it ends past the card. No card is longer than 39 bytes and no field
 // wider than 17 bits: whatever asks for more is past the card too, so that any place and width may be asked for.
-fn field(card: &[u8], at: usize, width: usize) -> Field
+fn bits_at(card: &[u8], at: usize, width: usize) -> Field
     ensures { λ r. ⌜ r ≡ fieldIn (now (card .entry)) at width ⌝ }
 {
     if card.len() > 39 {
@@ -70,6 +70,47 @@ fn field(card: &[u8], at: usize, width: usize) -> Field
         i += 1;
     }
     Field::Value(value)
+}
+
+// ---- a reader
+
+// "A reader over a lent card holds the card and the place of the next bit."
+pub struct Reader<'a> {
+    pub card: &'a [u8],
+    pub at: usize,
+}
+
+impl<'a> Reader<'a> {
+    pub fn new(card: &'a [u8]) -> Reader<'a>
+        ensures { λ r. ⌜ (r .card ≡ card .entry) × (r .at ≡ 0) ⌝ }
+    {
+        Reader { card, at: 0 }
+    }
+
+    // The field of so many bits from the next bit on.
+    pub fn take(self, width: usize) -> Field
+        ensures { λ r. ⌜ r ≡ fieldIn (now (self .entry .card)) (self .entry .at) width ⌝ }
+    {
+        bits_at(self.card, self.at, width)
+    }
+
+    // Moved on: the same card, and the next bit at another place.
+    pub fn moved(self, at: usize) -> Reader<'a>
+        ensures { λ r. ⌜ (r .card ≡ self .entry .card) × (r .at ≡ at) ⌝ }
+    {
+        Reader {
+            card: self.card,
+            at,
+        }
+    }
+}
+
+// The field of so many bits at a place, by a reader. Its parameters are a plain slice and numbers: whoever reads a card need
+// know no reader.
+fn field(card: &[u8], at: usize, width: usize) -> Field
+    ensures { λ r. ⌜ r ≡ fieldIn (now (card .entry)) at width ⌝ }
+{
+    Reader::new(card).moved(at).take(width)
 }
 
 // The value of a field that lies inside the card, as each does once the card's length has been tested.
@@ -291,44 +332,4 @@ pub fn write(room: &mut [u8], products: usize, bidder: u8, round: u16, lines: [L
     put_field(room, 5, 12, round as u32);
     put_lines(room, lines, products);
     Answer::Done
-}
-
-// ---- a reader
-
-// "A reader over a lent card holds the card and the place of the next bit."
-pub struct Reader<'a> {
-    pub card: &'a [u8],
-    pub at: usize,
-}
-
-impl<'a> Reader<'a> {
-    pub fn new(card: &'a [u8]) -> Reader<'a>
-        ensures { λ r. ⌜ (r .card ≡ card .entry) × (r .at ≡ 0) ⌝ }
-    {
-        Reader { card, at: 0 }
-    }
-
-    // The field of so many bits from the next bit on.
-    pub fn take(self, width: usize) -> Field
-        ensures { λ r. ⌜ r ≡ fieldIn (now (self .entry .card)) (self .entry .at) width ⌝ }
-    {
-        field(self.card, self.at, width)
-    }
-
-    // Moved on: the same card, and the next bit at another place.
-    pub fn moved(self, at: usize) -> Reader<'a>
-        ensures { λ r. ⌜ (r .card ≡ self .entry .card) × (r .at ≡ at) ⌝ }
-    {
-        Reader {
-            card: self.card,
-            at,
-        }
-    }
-}
-
-// The round on a card of any count, without the rest of it. Its parameter is a plain slice: callers need know no reader.
-pub fn round_of(card: &[u8]) -> Field
-    ensures { λ r. ⌜ r ≡ fieldIn (now (card .entry)) 5 12 ⌝ }
-{
-    Reader::new(card).moved(5).take(12)
 }

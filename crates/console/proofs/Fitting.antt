@@ -11,15 +11,11 @@ use Rattle.rules.specs.Layout.{loaded}
 use Rattle.rules.specs.Calls.{bidderNumber}
 use Rattle.rules.proofs.Storing.{Bytes, loaded-bits}
 use Rattle.rules.proofs.Fitting.{record-small}
-use Rattle.held.specs.Counts.{Counts}
 use Rattle.reports.specs.Awards.{Awardable}
-use Rattle.console.proofs.StateLaws.{Stood}
+use Rattle.numbers.proofs.StateLaws.{Stood}
 use Rattle.console.proofs.Counting.{few-filed}
 
 module _ (s : List ℕ) where
-  pub counts : Stood s → Counts (loaded s)
-  counts S = record { products = S .stood .limits .products; bidders = S .stood .limits .bidders }
-
   pub awardable : Stood s → Awardable (loaded s)
   awardable S = record { small = λ k h. omega (arith, record-small (loaded s) (S .stood) k h .0) }
 

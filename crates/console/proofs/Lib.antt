@@ -1,5 +1,4 @@
 pub mod Answering
-pub mod StateLaws
 pub mod Counting
 pub mod Opening
 pub mod Fitting

@@ -18,8 +18,7 @@ use Rattle.rules.proofs.Tests.{told}
 use Rattle.rules.proofs.Fitting.{lines-fit, record-small}
 use Rattle.round.specs.Ready.{Small, Ready}
 use Rattle.console.proofs.Answering.{Gives}
-use Rattle.console.proofs.StateLaws.{Stood, stood-by}
-use Rattle.console.proofs.Fitting.{counts}
+use Rattle.numbers.proofs.StateLaws.{Stood, stood-by, counts}
 
 module _ (s : List ℕ) (S : Stood s) where
   bid-small : (k : ℕ) → k < 256 → bidIn (getD (loaded s .bids) k noLine) < 256

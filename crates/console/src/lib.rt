@@ -1,8 +1,8 @@
 // The console: document 01's calls on lent bytes, and nothing else. Each call's contract is its one definition in the crate rules,
 // specs/Calls.antt: its answer and every byte that it may write, for every input.
 ghost use mathlib.Core.Path.{_≡_};
-ghost use Rattle.rules.specs.Calls.{openCall, fileNumber, fileCall, countNumber, countCall, calculateNumber, calculateCall, reportNumber, reportCall, resultNumber, resultCall, returnCall, readCall, writeCall};
-ghost use Rattle.console.specs.State.{stateNumber};
+ghost use Rattle.rules.specs.Calls.{openCall, fileCall, countCall, calculateCall, reportCall, resultCall, returnCall, readCall, writeCall};
+pub use numbers::state_number;
 use rules::Answer;
 use rules::Awarded;
 use rules::Calculation;
@@ -11,22 +11,6 @@ use rules::Count;
 use rules::Line;
 use rules::Reported;
 use rules::Settings;
-
-// 1, 2, and 3 for an issued state, which has no auction; 0 where the state stands.
-fn state_number(s: &[u8]) -> u8
-    ensures { λ r. ⌜ r ≡ stateNumber (now (s .entry)) ⌝ }
-{
-    if s.len() != 3333 {
-        return 1;
-    }
-    if state::is_zero(s) {
-        return 3;
-    }
-    if standing::stands(state::load(s)) {
-        return 0;
-    }
-    2
-}
 
 // Open an auction: 1, 17, 15.
 pub fn open(s: &mut [u8], given: Settings) -> Answer
@@ -46,21 +30,11 @@ pub fn open(s: &mut [u8], given: Settings) -> Answer
     Answer::Done
 }
 
-fn file_number(s: &[u8], card: &[u8]) -> u8
-    ensures { λ r. ⌜ r ≡ fileNumber (now (s .entry)) (now (card .entry)) ⌝ }
-{
-    let n = state_number(s);
-    if n != 0 {
-        return n;
-    }
-    filing::card_number(state::load(s), card)
-}
-
 // File a bid card: 1, 2, 3, 4, 5, 6 to 13.
 pub fn file(s: &mut [u8], card: &[u8]) -> Answer
     ensures { λ r. ⌜ (r ≡ fileCall (now (s .entry)) (now (card .entry)) .answer) × (now (s .exit) ≡ fileCall (now (s .entry)) (now (card .entry)) .bytes) ⌝ }
 {
-    let n = file_number(s, card);
+    let n = numbers::file_number(s, card);
     if n != 0 {
         return Answer::Refused(n);
     }
@@ -69,25 +43,11 @@ pub fn file(s: &mut [u8], card: &[u8]) -> Answer
     Answer::Done
 }
 
-fn count_number(s: &[u8]) -> u8
-    ensures { λ r. ⌜ r ≡ countNumber (now (s .entry)) ⌝ }
-{
-    let n = state_number(s);
-    if n != 0 {
-        return n;
-    }
-    let a = state::load(s);
-    if a.phase == 1 {
-        return 0;
-    }
-    3
-}
-
 // Count the bidders still to file: 1, 2, 3.
 pub fn count(s: &[u8]) -> Count
     ensures { λ r. ⌜ r ≡ countCall (now (s .entry)) ⌝ }
 {
-    let n = count_number(s);
+    let n = numbers::count_number(s);
     if n != 0 {
         return Count::Refused(n);
     }
@@ -96,28 +56,11 @@ pub fn count(s: &[u8]) -> Count
     Count::ToFile(still)
 }
 
-fn calculate_number(s: &[u8], draw: &[u8]) -> u8
-    ensures { λ r. ⌜ r ≡ calculateNumber (now (s .entry)) (now (draw .entry)) ⌝ }
-{
-    let n = state_number(s);
-    if n != 0 {
-        return n;
-    }
-    let a = state::load(s);
-    if a.phase != 1 {
-        return 3;
-    }
-    if settings::draw_fits(draw, a.terms.bidders as usize) {
-        return 0;
-    }
-    14
-}
-
 // Calculate a round: 1, 2, 3, 14.
 pub fn calculate(s: &mut [u8], draw: &[u8]) -> Calculation
     ensures { λ r. ⌜ (r ≡ calculateCall (now (s .entry)) (now (draw .entry)) .answer) × (now (s .exit) ≡ calculateCall (now (s .entry)) (now (draw .entry)) .bytes) ⌝ }
 {
-    let n = calculate_number(s, draw);
+    let n = numbers::calculate_number(s, draw);
     if n != 0 {
         return Calculation::Refused(n);
     }
@@ -130,59 +73,22 @@ pub fn calculate(s: &mut [u8], draw: &[u8]) -> Calculation
     }
 }
 
-fn report_number(s: &[u8], bidder: u8) -> u8
-    ensures { λ r. ⌜ r ≡ reportNumber (now (s .entry)) bidder ⌝ }
-{
-    let n = state_number(s);
-    if n != 0 {
-        return n;
-    }
-    let a = state::load(s);
-    if bidder >= a.terms.bidders {
-        return 6;
-    }
-    if a.phase != 1 {
-        return 0;
-    }
-    if a.round == 1 {
-        return 18;
-    }
-    0
-}
-
 // Report to one bidder: 1, 2, 3 (issued), 6, 18.
 pub fn report(s: &[u8], bidder: u8) -> Reported
     ensures { λ r. ⌜ r ≡ reportCall (now (s .entry)) bidder ⌝ }
 {
-    let n = report_number(s, bidder);
+    let n = numbers::report_number(s, bidder);
     if n != 0 {
         return reports::refused_report(n);
     }
     reports::report_on(state::load(s), bidder as usize)
 }
 
-fn result_number(s: &[u8]) -> u8
-    ensures { λ r. ⌜ r ≡ resultNumber (now (s .entry)) ⌝ }
-{
-    let n = state_number(s);
-    if n == 3 {
-        return 16;
-    }
-    if n != 0 {
-        return n;
-    }
-    let a = state::load(s);
-    if a.phase == 2 {
-        return 0;
-    }
-    16
-}
-
 // Give the result: 1, 2, 16.
 pub fn result(s: &[u8]) -> Awarded
     ensures { λ r. ⌜ r ≡ resultCall (now (s .entry)) ⌝ }
 {
-    let n = result_number(s);
+    let n = numbers::result_number(s);
     if n != 0 {
         return reports::refused_result(n);
     }

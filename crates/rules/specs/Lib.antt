@@ -16,4 +16,3 @@ pub mod Layout
 pub mod Standing
 pub mod Counted
 pub mod Calls
-pub mod Cases

@@ -6,8 +6,8 @@ use lib.ListN.{length}
 use lib.Seq.{sets}
 use Rattle.rules.specs.declared.Auction.{Auction}
 use Rattle.rules.specs.Layout.{stateLength, productsFrom, biddersFrom, rowsFrom, recordsFrom, bidsFrom, bytesUpTo, headBytes, stored}
-use Rattle.state.specs.Parts.{productPart, bidderPart, rowPart, recordPart, linePart}
-use Rattle.state.proofs.Runs.{run, run-parts, run-whole}
+use Rattle.storing.specs.Parts.{productPart, bidderPart, rowPart, recordPart, linePart}
+use Rattle.storing.proofs.Runs.{run, run-parts, run-whole}
 
 pub together : (a : Auction) (s : List ℕ) {s₁ s₂ s₃ s₄ s₅ s₆ : List ℕ} → length s ≡ stateLength
     → s₁ ≡ sets s 0 (headBytes a)

@@ -1,7 +1,4 @@
 // "The state is lent bytes of one fixed length, at most 8,192, all zero as issued": the bytes as an auction, and an auction as the bytes.
-mod reading;
-mod writing;
-
 ghost use mathlib.Core.Path.{_≡_};
 ghost use lib.ListN.{length, replicate};
 ghost use Rattle.rules.specs.Layout.{stateLength, loaded, stored, allZero};
@@ -12,14 +9,14 @@ pub fn load(s: &[u8]) -> Auction
     ensures { λ r. ⌜ r ≡ loaded (now (s .entry)) ⌝ }
 {
     let phase = s[0];
-    let round = reading::two(s, 5);
-    let filed = reading::four(s, 9);
-    let terms = reading::terms(s);
-    let price = reading::prices(s, 18);
-    let before = reading::prices(s, 21);
-    let free = reading::counts(s, 103);
-    let records = reading::records(s);
-    let bids = reading::lines(s);
+    let round = loading::two(s, 5);
+    let filed = loading::four(s, 9);
+    let terms = loading::terms(s);
+    let price = loading::prices(s, 18);
+    let before = loading::prices(s, 21);
+    let free = loading::counts(s, 103);
+    let records = loading::records(s);
+    let bids = loading::lines(s);
     Auction {
         phase,
         round,
@@ -38,20 +35,20 @@ pub fn store(a: Auction, s: &mut [u8])
     requires { ⌜ length (now s) ≡ stateLength ⌝ }
     ensures { λ _. ⌜ now (s .exit) ≡ stored a ⌝ }
 {
-    writing::head(a, s);
+    storing::head(a, s);
     let item = a.terms.item;
     let price = a.price;
     let before = a.before;
-    writing::products(item, price, before, s);
+    storing::products(item, price, before, s);
     let eligibility = a.terms.eligibility;
     let free = a.free;
-    writing::bidders(eligibility, free, s);
+    storing::bidders(eligibility, free, s);
     let row = a.terms.row;
-    writing::rows(row, s);
+    storing::rows(row, s);
     let records = a.records;
-    writing::records(records, s);
+    storing::records(records, s);
     let bids = a.bids;
-    writing::lines(bids, s);
+    storing::lines(bids, s);
 }
 
 // Whether the bytes are as issued.

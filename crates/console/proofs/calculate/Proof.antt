@@ -3,7 +3,7 @@ use denote.Ref.{now}
 use Rattle.rules.specs.Layout.{loaded}
 use Rattle.rules.specs.Round.{calculated}
 use Rattle.round.specs.Ready.{Ready}
-use Rattle.console.proofs.StateLaws.{Stood}
+use Rattle.numbers.proofs.StateLaws.{Stood}
 use Rattle.console.proofs.Rounds.{ready, calculate-refused, calculate-done}
 use borrow.Author.Needs.{needs}
 use Rattle.console.proofs.calculate.Statement.{statement}

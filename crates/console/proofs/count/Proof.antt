@@ -5,7 +5,7 @@ use Rattle.console.proofs.Answering.{refuses-with, answers-with}
 use Rattle.rules.specs.Calls.{openNumberOf, toFile, countCall}
 use denote.Ref.{now}
 use mathlib.Core.Path.{ap}
-use Rattle.console.proofs.StateLaws.{Stood, stood-by}
+use Rattle.numbers.proofs.StateLaws.{Stood, stood-by}
 use borrow.Author.Needs.{needs}
 use Rattle.console.proofs.count.Statement.{statement}
 use Rattle.console.proofs.count.Tie as tie

@@ -4,7 +4,7 @@ use Rattle.console.proofs.Answering.{refuses, does}
 use Rattle.rules.specs.Calls.{cardNumber, afterCard, fileCall}
 use denote.Ref.{now}
 use mathlib.Core.Path.{_∙_, ap}
-use Rattle.console.proofs.StateLaws.{Stood, stood-by}
+use Rattle.numbers.proofs.StateLaws.{Stood, stood-by}
 use borrow.Author.Needs.{needs}
 use Rattle.console.proofs.file.Statement.{statement}
 use Rattle.console.proofs.file.Tie as tie

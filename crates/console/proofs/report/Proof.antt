@@ -1,12 +1,12 @@
 use Rattle.rules.specs.Report.{reportOn, reportRefused}
-use Rattle.console.proofs.Fitting.{counts, bidder-in-use}
+use Rattle.console.proofs.Fitting.{bidder-in-use}
+use Rattle.numbers.proofs.StateLaws.{counts, Stood, stood-by}
 use native.Mathlib.Omega.{arith}
 use Rattle.console.proofs.Answering.{refuses-with, answers-with}
 use Rattle.rules.specs.Calls.{bidderNumber, reportCall}
 use denote.Ref.{now}
 use Rattle.rules.specs.Layout.{loaded}
 use mathlib.Core.Path.{_≡_, _∙_, ap}
-use Rattle.console.proofs.StateLaws.{Stood, stood-by}
 use borrow.Author.Needs.{needs}
 use Rattle.console.proofs.report.Statement.{statement}
 use Rattle.console.proofs.report.Tie as tie

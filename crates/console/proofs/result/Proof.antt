@@ -1,11 +1,11 @@
 use Rattle.rules.specs.Report.{resultOf, resultRefused}
-use Rattle.console.proofs.Fitting.{counts, awardable}
+use Rattle.console.proofs.Fitting.{awardable}
+use Rattle.numbers.proofs.StateLaws.{counts, Stood, stood-by}
 use native.Mathlib.Omega.{arith}
 use Rattle.console.proofs.Answering.{refuses-with, answers-with}
 use Rattle.rules.specs.Calls.{closedNumber, resultCall}
 use denote.Ref.{now}
 use mathlib.Core.Path.{_∙_, ap}
-use Rattle.console.proofs.StateLaws.{Stood, stood-by}
 use borrow.Author.Needs.{needs}
 use Rattle.console.proofs.result.Statement.{statement}
 use Rattle.console.proofs.result.Tie as tie

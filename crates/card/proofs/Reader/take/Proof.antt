@@ -1,5 +1,5 @@
--- `Reader::take` meets its contract, by a walk of its code: the struct is taken apart, and `field` is called on the card and the numbers.
--- Of `field` the walk knows its contract alone. Assumes nothing.
+-- `Reader::take` meets its contract, by a walk of its code: the struct is taken apart, and `bits_at` is called on the card and the numbers.
+-- Of `bits_at` the walk knows its contract alone. Assumes nothing.
 use mathlib.Core.Path.{_≡_, refl}
 use mathlib.Core.List.{[], _∷_}
 use Prim.Native.Nat.{ℕ, _<_, _^_}
@@ -53,10 +53,10 @@ use Rattle.card.proofs.Reader.take.Key.{name as #take}
 use Rattle.card.proofs.Reader.take as take
 use Rattle.card.proofs.Reader.take.Statement as stated
 use Rattle.card.proofs.Reader.take.Code as code
-use Rattle.card.proofs.field as field
-use Rattle.card.proofs.field.Symbol as field-def
-use Rattle.card.proofs.field.Symbol.{name as #field}
-use Rattle.card.proofs.field.Met as field-thm
+use Rattle.card.proofs.bits_at as bits-at
+use Rattle.card.proofs.bits_at.Symbol as bits-at-def
+use Rattle.card.proofs.bits_at.Symbol.{name as #bits-at}
+use Rattle.card.proofs.bits_at.Met as bits-at-thm
 
 -- a reader's type, at the signature's lifetime
 abbrev B : Lfts 1 → RattleType
@@ -66,9 +66,9 @@ abbrev stayed : Stays (take.ended .signature .params) (take.ended .kept)
 stayed = (stay-none B yes, (stay-none (λ _. usize) yes, tt))
 
 module _ {M : Type 1} (𝓤 : URA M) (H : Heap 𝓤) (A : Atoms 𝓤) (mem : Memory → SProp 𝓤) (run : Routine → Fun 𝓤) where
-  -- what `field` promises
+  -- what `bits_at` promises
   abbrev FieldC : Contract 𝓤
-  FieldC = tripleOf 𝓤 H A field.signature (field.spec 𝓤 H A mem run)
+  FieldC = tripleOf 𝓤 H A bits-at.signature (bits-at.spec 𝓤 H A mem run)
 
 module _ {M : Type 1} (𝓤 : URA M) (H : Heap 𝓤) (A : Atoms 𝓤) (W : Given 𝓤 H A) (mem : Memory → SProp 𝓤) (run : Routine → Fun 𝓤) (κ : Lft) (q : Share) (d : Reader) (n : ℕ) (ok : n < 2 ^ 64) where
   abbrev mach : Val
@@ -100,17 +100,17 @@ module _ {M : Type 1} (𝓤 : URA M) (H : Heap 𝓤) (A : Atoms 𝓤) (W : Given
   abbrev vd : Values (D .parts)
   vd = (d .card, (d .at, tt))
 
-  -- the values handed to `field`
-  abbrev passed : Vals field.signature (κ, tt)
+  -- the values handed to `bits_at`
+  abbrev passed : Vals bits-at.signature (κ, tt)
   passed = (v ∷ [], (vint w64 (d .at) ∷ [], (vint w64 n ∷ [], tt)))
 
   abbrev to : FieldC 𝓤 H A mem run .Ghost
   to = (((κ, tt), (q, tt), tt, (d .card, (d .at, (n, tt))), passed), tt)
 
-  asked : ent 𝓤 (onEntry 𝓤 H A field.signature (κ, tt) (q, tt) (d .card, (d .at, (n, tt))) passed) (FieldC 𝓤 H A mem run .pre to)
+  asked : ent 𝓤 (onEntry 𝓤 H A bits-at.signature (κ, tt) (q, tt) (d .card, (d .at, (n, tt))) passed) (FieldC 𝓤 H A mem run .pre to)
   asked = qed W ((‵ (flft κ q) ⊛ ‵ ftrue) ∷ ‵ (owns (ShrSlice (named 0) κ u8 ∷ usize ∷ usize ∷ []) (d .card, (d .at, (n, tt))) passed) ∷ []) ∵ join ! $ frame ! $ done !
 
-  -- the reader is had twice: one is kept for the exit, the other opened for what `field` asks
+  -- the reader is had twice: one is kept for the exit, the other opened for what `bits_at` asks
   apart : d .at < 2 ^ 64 → ent 𝓤 (onEntry 𝓤 H A take.signature (κ, tt) (q, tt) (d, (n, tt)) at) (sep 𝓤 (FieldC 𝓤 H A mem run .pre to) (sem 𝓤 H A Own))
   apart fits =
       qed W ((‵ (flft κ q) ⊛ ‵ ftrue) ∷ ‵ (owns (B (κ, tt) ∷ usize ∷ []) (d, (n, tt)) at) ∷ []) ∵
@@ -120,9 +120,9 @@ module _ {M : Type 1} (𝓤 : URA M) (H : Heap 𝓤) (A : Atoms 𝓤) (W : Given
       move ! (1 ∷ []) $ drop ! $ nothing ! $ owned ! usize (Is usize) (uint-makes 𝓤 H A W w64) n _ (refl, ok) $ fjoin ! $ owned ! usize (Is usize) (uint-makes 𝓤 H A W w64) (d .at) _ (refl, fits) $ fjoin ! $ move ! (1 ∷ 0 ∷ []) $ fjoin ! $
       move ! (2 ∷ 0 ∷ []) $ use2 W (raw (FieldC 𝓤 H A mem run .pre to)) asked $ frame ! $ done !)
 
-  -- of what `field` leaves, the clause of its contract
-  said : (r : Field) → ent 𝓤 (ensured 𝓤 H A field.ended (field.clauses 𝓤 H A mem run) (κ, tt) (d .card, (d .at, (n, tt))) tt r) (fact 𝓤 (r ≡ found))
-  said r = exE 𝓤 _ (λ ws. snd∗ 𝓤 (sem 𝓤 H A (lasts field.ended (κ, tt) (d .card, (d .at, (n, tt))) ws)) (fact 𝓤 (r ≡ found)))
+  -- of what `bits_at` leaves, the clause of its contract
+  said : (r : Field) → ent 𝓤 (ensured 𝓤 H A bits-at.ended (bits-at.clauses 𝓤 H A mem run) (κ, tt) (d .card, (d .at, (n, tt))) tt r) (fact 𝓤 (r ≡ found))
+  said r = exE 𝓤 _ (λ ws. snd∗ 𝓤 (sem 𝓤 H A (lasts bits-at.ended (κ, tt) (d .card, (d .at, (n, tt))) ws)) (fact 𝓤 (r ≡ found)))
 
   exits : (r : Field) (u : Val) → r ≡ found → ent 𝓤 (⋆ 𝓤 H A (‵ (S.the-row .own r (u ∷ [])) ∷ (‵ (flft κ q) ⊛ ‵ ftrue) ∷ ‵ Own ∷ [])) (Post u)
   exits r u e =
@@ -130,7 +130,7 @@ module _ {M : Type 1} (𝓤 : URA M) (H : Heap 𝓤) (A : Atoms 𝓤) (W : Given
       suffices ! _ (ends-at 𝓤 H A take.ended stayed (take.clauses 𝓤 H A mem run) W (((κ, tt), (q, tt), tt, (d, (n, tt)), at), tt) u r (tt, (tt, tt)) (tt, (tt, tt))) $ says ! e $
       move ! (1 ∷ []) $ frame ! $ nothing ! $ owned ! usize (Is usize) (uint-makes 𝓤 H A W w64) n _ (refl, ok) $ fjoin ! $ move ! (2 ∷ 0 ∷ []) $ fjoin ! $ frame ! $ done !
 
-  module _ (C : Calls 𝓤 H) (Λ : Loops 𝓤 H) (fm : FmC 𝓤 H (W .laws) C) (known : Triple 𝓤 (C #field) (FieldC 𝓤 H A mem run)) where
+  module _ (C : Calls 𝓤 H) (Λ : Loops 𝓤 H) (fm : FmC 𝓤 H (W .laws) C) (known : Triple 𝓤 (C #bits-at) (FieldC 𝓤 H A mem run)) where
     walk : Holds (hasTy (T′.mir (named 0)) mach) × WT mach → ent 𝓤 (onEntry 𝓤 H A take.signature (κ, tt) (q, tt) (d, (n, tt)) at) (WpFn 𝓤 H C Λ code.function (mach ∷ vint w64 n ∷ []) Post)
     walk wt =
         qed W (raw (onEntry 𝓤 H A take.signature (κ, tt) (q, tt) (d, (n, tt)) at) ∷ []) ∵ enter ! C Λ code.function (mach ∷ vint w64 n ∷ []) _ $
@@ -139,7 +139,7 @@ module _ {M : Type 1} (𝓤 : URA M) (H : Heap 𝓤) (A : Atoms 𝓤) (W : Given
         assigns ! (of-opd ! (load ! (from ! (fld ! refl (stop !))) (look-in ! 6 (sub ! 1 refl (whole !))))) (from ! (stop !)) (init ! 0 refl (tt, wt .1 .1 .0)) $
         move ! (10 ∷ []) $ use1 W (raw (FieldC 𝓤 H A mem run .pre to) ⊛ ‵ Own) (apart (wt .1 .1 .0 .fits)) $ split ! $
         calls-at ! fm (FieldC 𝓤 H A mem run) known to (and-then ! (load ! (from ! (stop !)) (look ! 4 refl)) (and-then ! (load ! (from ! (stop !)) (look ! 2 refl)) (and-then ! (load ! (from ! (stop !)) (look ! 6 refl)) (no-more !)))) (λ u.
-        use1 W (later (some (λ (r : Field). ((‵ (flft κ q) ⊛ ‵ ftrue) ⊛ ‵ (S.the-row .own r (u ∷ []))) ⊛ raw (ensured 𝓤 H A field.ended (field.clauses 𝓤 H A mem run) (κ, tt) (d .card, (d .at, (n, tt))) tt r)))) (id⊢ 𝓤 _) $ await ! tt $ pick ! (λ r.
+        use1 W (later (some (λ (r : Field). ((‵ (flft κ q) ⊛ ‵ ftrue) ⊛ ‵ (S.the-row .own r (u ∷ []))) ⊛ raw (ensured 𝓤 H A bits-at.ended (bits-at.clauses 𝓤 H A mem run) (κ, tt) (d .card, (d .at, (n, tt))) tt r)))) (id⊢ 𝓤 _) $ await ! tt $ pick ! (λ r.
         split ! $ move ! (1 ∷ []) $ use1 W (raw (fact 𝓤 (r ≡ found))) (said r) $ heard ! (r ≡ found) (λ e. split ! $ move ! (1 ∷ []) $
         -- [the field; the token; the reader; locals 4 to 1; room for local 0]
         peeks ! S.the-row (Is S.the-row) (shows 𝓤 H A S.the-row) r (u ∷ []) (λ is.
@@ -148,16 +148,16 @@ module _ {M : Type 1} (𝓤 : URA M) (H : Heap 𝓤) (A : Atoms 𝓤) (W : Given
         move ! (11 ∷ 12 ∷ []) $ free1 ! $ move ! (9 ∷ 10 ∷ []) $ free1 ! $ move ! (7 ∷ 8 ∷ []) $ free1 ! $ move ! (5 ∷ 6 ∷ []) $ free1 ! $ move ! (3 ∷ 4 ∷ []) $ free1 ! $ free0 ! $ by ! (exits r u e))))))))))
 
 module _ {M : Type 1} (𝓤 : URA M) (H : Heap 𝓤) (A : Atoms 𝓤) (W : Given 𝓤 H A) (mem : Memory → SProp 𝓤) (run : Routine → Fun 𝓤) where
-  take-walks : (C : Calls 𝓤 H) (Λ : Loops 𝓤 H) → FmC 𝓤 H (W .laws) C → Triple 𝓤 (C #field) (FieldC 𝓤 H A mem run)
+  take-walks : (C : Calls 𝓤 H) (Λ : Loops 𝓤 H) → FmC 𝓤 H (W .laws) C → Triple 𝓤 (C #bits-at) (FieldC 𝓤 H A mem run)
       → Walks 𝓤 H A take.ended stayed (WpFn 𝓤 H C Λ code.function) (take.clauses 𝓤 H A mem run)
   take-walks C Λ fm known = walked 𝓤 H A take.ended stayed (take.clauses 𝓤 H A mem run) (WpFn 𝓤 H C Λ code.function) (λ κs. (LL.vals (T.the-type (namedLft 1 0 tt κs)) (T′.the-laws (namedLft 1 0 tt κs)), (uint-vals w64, tt))) (λ κs. (LL.tells (T.the-type (namedLft 1 0 tt κs)) (T′.the-laws (namedLft 1 0 tt κs)), (uint-tells w64, tt)))
       (λ κs qs bounds a g are. via 𝓤 _ (fst∗ 𝓤 _ (emp 𝓤)) (walk 𝓤 H A W mem run (κs .0) (qs .0) (a .0) (a .1 .0) (are .1 .0 .1) C Λ fm known (LL.lawful (T.the-type (namedLft 1 0 tt κs)) (T′.the-laws (namedLft 1 0 tt κs)) 𝓤 H A W .typed (a .0) _ (are .0) .0)))
 
 take-meets : {M : Type 1} (𝓤 : URA M) (H : Heap 𝓤) (A : Atoms 𝓤) (W : Given 𝓤 H A) (mem : Memory → SProp 𝓤) (run : Routine → Fun 𝓤) (𝓣 : Tables 𝓤 H)
-    → Triple 𝓤 (𝓣 .C #field) (FieldC 𝓤 H A mem run)
+    → Triple 𝓤 (𝓣 .C #bits-at) (FieldC 𝓤 H A mem run)
     → Meets 𝓤 H A take.signature (WpFn 𝓤 H (𝓣 .C) (𝓣 .Λ) code.function) (take.spec 𝓤 H A mem run)
-take-meets 𝓤 H A W mem run 𝓣 known-field = walk-meets 𝓤 H A take.ended stayed W (goes-none 𝓤 H A W 1 B yes (λ κs x f. refl), (goes-none 𝓤 H A W 1 (λ _. usize) yes (λ κs x f. refl), tt)) (take.clauses 𝓤 H A mem run) (WpFn 𝓤 H (𝓣 .C) (𝓣 .Λ) code.function) (WpFn-mono 𝓤 H (W .laws) 𝓣 code.function)
-    (take-walks 𝓤 H A W mem run (𝓣 .C) (𝓣 .Λ) (fmOf 𝓤 H (W .laws) 𝓣) known-field)
+take-meets 𝓤 H A W mem run 𝓣 known-bits-at = walk-meets 𝓤 H A take.ended stayed W (goes-none 𝓤 H A W 1 B yes (λ κs x f. refl), (goes-none 𝓤 H A W 1 (λ _. usize) yes (λ κs x f. refl), tt)) (take.clauses 𝓤 H A mem run) (WpFn 𝓤 H (𝓣 .C) (𝓣 .Λ) code.function) (WpFn-mono 𝓤 H (W .laws) 𝓣 code.function)
+    (take-walks 𝓤 H A W mem run (𝓣 .C) (𝓣 .Λ) (fmOf 𝓤 H (W .laws) 𝓣) known-bits-at)
 
 pub take-spec : {M : Type 1} → stated.statement M
 unfolding code.routine tablesOf
@@ -165,4 +165,4 @@ take-spec 𝓤 H 𝓜 𝓖 𝓡 =
     entered 𝓤 H (tripleOf 𝓤 H (𝓖 .A) take.signature (take.spec 𝓤 H (𝓖 .A) (𝓜 .mem) (𝓡 .run)))
     (tables 𝓤 H 𝓜 𝓡 code.env .C) (tables 𝓤 H 𝓜 𝓡 code.env .Λ) #take code.function (code.unfolded 𝓤 H 𝓜 𝓡)
     (take-meets 𝓤 H (𝓖 .A) (givenOf 𝓤 H 𝓜 𝓖) (𝓜 .mem) (𝓡 .run) (tablesOf 𝓤 H 𝓜 (tables 𝓤 H 𝓜 𝓡 code.env))
-    (cited 𝓤 H (FieldC 𝓤 H (𝓖 .A) (𝓜 .mem) (𝓡 .run)) 𝓜 𝓡 code.env #field field-def.routine code.calls-card·field (field-thm.met 𝓤 H 𝓜 𝓖 𝓡)))
+    (cited 𝓤 H (FieldC 𝓤 H (𝓖 .A) (𝓜 .mem) (𝓡 .run)) 𝓜 𝓡 code.env #bits-at bits-at-def.routine code.calls-card·bits-at (bits-at-thm.met 𝓤 H 𝓜 𝓖 𝓡)))

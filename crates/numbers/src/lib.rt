@@ -1,0 +1,104 @@
+// "Numbers answered": the first number that applies, for each call that is lent a state and needs one that stands. 0 stands for
+// none: the call does its work.
+ghost use mathlib.Core.Path.{_≡_};
+ghost use Rattle.rules.specs.Calls.{fileNumber, countNumber, calculateNumber, reportNumber, resultNumber};
+ghost use Rattle.numbers.specs.State.{stateNumber};
+
+// 1, 2, and 3 for an issued state, which has no auction; 0 where the state stands.
+pub fn state_number(s: &[u8]) -> u8
+    ensures { λ r. ⌜ r ≡ stateNumber (now (s .entry)) ⌝ }
+{
+    if s.len() != 3333 {
+        return 1;
+    }
+    if state::is_zero(s) {
+        return 3;
+    }
+    if standing::stands(state::load(s)) {
+        return 0;
+    }
+    2
+}
+
+// File: 1, 2, 3, 4, 5, 6 to 13.
+pub fn file_number(s: &[u8], card: &[u8]) -> u8
+    ensures { λ r. ⌜ r ≡ fileNumber (now (s .entry)) (now (card .entry)) ⌝ }
+{
+    let n = state_number(s);
+    if n != 0 {
+        return n;
+    }
+    filing::card_number(state::load(s), card)
+}
+
+// Count: 1, 2, 3.
+pub fn count_number(s: &[u8]) -> u8
+    ensures { λ r. ⌜ r ≡ countNumber (now (s .entry)) ⌝ }
+{
+    let n = state_number(s);
+    if n != 0 {
+        return n;
+    }
+    let a = state::load(s);
+    if a.phase == 1 {
+        return 0;
+    }
+    3
+}
+
+// Calculate: 1, 2, 3, 14.
+pub fn calculate_number(s: &[u8], draw: &[u8]) -> u8
+    ensures { λ r. ⌜ r ≡ calculateNumber (now (s .entry)) (now (draw .entry)) ⌝ }
+{
+    let n = state_number(s);
+    if n != 0 {
+        return n;
+    }
+    let a = state::load(s);
+    if a.phase != 1 {
+        return 3;
+    }
+    if settings::draw_fits(draw, a.terms.bidders as usize) {
+        return 0;
+    }
+    14
+}
+
+// Report: 1, 2, 3 (issued), 6, 18.
+pub fn report_number(s: &[u8], bidder: u8) -> u8
+    ensures { λ r. ⌜ r ≡ reportNumber (now (s .entry)) bidder ⌝ }
+{
+    let n = state_number(s);
+    if n != 0 {
+        return n;
+    }
+    let a = state::load(s);
+    if bidder >= a.terms.bidders {
+        return 6;
+    }
+    if a.phase != 1 {
+        return 0;
+    }
+    if a.round == 1 {
+        return 18;
+    }
+    0
+}
+
+// Result: 1, 2, 16.
+pub fn result_number(s: &[u8]) -> u8
+    ensures { λ r. ⌜ r ≡ resultNumber (now (s .entry)) ⌝ }
+{
+    let n = state_number(s);
+    if n == 3 {
+        return 16;
+    }
+    if n != 0 {
+        return n;
+    }
+    let a = state::load(s);
+    if a.phase == 2 {
+        return 0;
+    }
+    16
+}
