@@ -12,7 +12,7 @@ use Rattle.rules.specs.declared.CardRead.{CardRead}
 use Rattle.rules.specs.Answers.{Said, said, cardSaid}
 use Rattle.rules.specs.Bits.{fieldAt}
 use Rattle.rules.specs.Card.{noLine, cardLength, countFits, filled, bidOf, readLines, readRefused, readCard, writable}
-use Rattle.card.proofs.BitLaws.{field-small}
+use Rattle.bits.proofs.BitLaws.{field-small}
 use Rattle.card.proofs.AnswerLaws.{counted}
 use Rattle.card.proofs.LineLaws.{lines-fit}
 

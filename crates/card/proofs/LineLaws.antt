@@ -15,7 +15,7 @@ use Rattle.rules.specs.Bits.{bitAt, fieldAt}
 use Rattle.rules.specs.Count.{allUpTo}
 use Rattle.rules.specs.Card.{line, noLine, lineBit, lineAt, readLines, putLine, putLines, lineFits, lineZero}
 use Rattle.card.specs.Parts.{lineWritable}
-use Rattle.card.proofs.BitLaws.{field-small, Agree, field-agree, agree-field, agree-join, length-put, Outside, outside-part, put-out, field-before, field-put, Bytes, bytes-put}
+use Rattle.bits.proofs.BitLaws.{field-small, Agree, field-agree, agree-field, agree-join, length-put, Outside, outside-part, put-out, field-before, field-put, Bytes, bytes-put}
 
 -- ---- a line read
 

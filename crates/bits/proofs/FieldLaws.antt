@@ -12,8 +12,8 @@ use Rattle.rules.specs.declared.Field.{Field}
 use Rattle.rules.specs.declared.Field.the-variants.{Value, Past}
 use Rattle.rules.specs.Bits.{fieldAt}
 use Rattle.rules.specs.Card.{lineBit, cardLength, filled}
-use Rattle.card.specs.Parts.{Inside, fieldIn}
-use Rattle.card.proofs.BitLaws.{field-small}
+use Rattle.bits.specs.Fields.{Inside, fieldIn}
+use Rattle.bits.proofs.BitLaws.{field-small}
 
 pub field-in : (s : List ℕ) (at w : ℕ) → Inside s at w → fieldIn s at w ≡ Value (fieldAt s at w)
 unfolding fieldIn
