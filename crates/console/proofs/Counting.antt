@@ -9,7 +9,7 @@ use lib.Count.{ones, ones-le}
 use lib.Pow.{pow-pos, shr-lt}
 use Rattle.rules.specs.declared.Auction.{Auction}
 use Rattle.rules.specs.Bid.{hasFiled}
-use Rattle.rules.proofs.Stands.{Stands}
+use Rattle.rules.specs.Stands.{Stands}
 use Rattle.rules.proofs.Bids.{filed-in-use}
 
 -- a number whose bits from n on are 0 is below 2 to the n

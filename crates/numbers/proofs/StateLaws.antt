@@ -11,7 +11,7 @@ use Rattle.rules.specs.declared.Auction.{Auction}
 use Rattle.rules.specs.Layout.{stateLength, loaded, allZero}
 use Rattle.rules.specs.Standing.{stands}
 use Rattle.rules.specs.Calls.{ofState}
-use Rattle.rules.proofs.Stands.{Stands}
+use Rattle.rules.specs.Stands.{Stands}
 use Rattle.rules.proofs.Standing.{stands-take}
 use Rattle.held.specs.Counts.{Counts}
 use Rattle.numbers.specs.State.{stateNumber}

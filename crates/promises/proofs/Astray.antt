@@ -1,7 +1,7 @@
 -- Demand 1: "No bytes, card, draw or call order may stop it or lead it astray." Assumes nothing.
 use mathlib.Core.Path.{_≡_, refl, _∙_, ap}
 use mathlib.Core.Bool.{Bool, true, false}
-use mathlib.Core.Logic.{_⊎_, inl, inr}
+use mathlib.Core.Logic.{inl, inr}
 use mathlib.Core.List.{List, [], _∷_}
 use Prim.Native.Nat.{ℕ}
 use native.Mathlib.Omega.{arith}
@@ -9,30 +9,12 @@ use borrow.Author.Tests.{eqb-true, eqb-false}
 use lib.ListN.{length, length-replicate}
 use lib.Dec.{eqb}
 use Rattle.rules.specs.declared.Settings.{Settings}
-use Rattle.rules.specs.Layout.{stateLength, allZero}
+use Rattle.rules.specs.Layout.{stateLength}
 use Rattle.rules.specs.Calls.{openNumber, openCall, returnCall}
-use Rattle.rules.proofs.OneCall.{StandsIn, issued-not-standing, open-refused, file-refused, calculate-refused, return-issued, open-stands}
+use Rattle.rules.proofs.OneCall.{issued-not-standing, open-refused, file-refused, calculate-refused, return-issued, open-stands}
 use Rattle.promises.specs.Runs.{Call, opens, files, counts, calculates, reports, results, reads, writes, after}
+use Rattle.promises.specs.Hires.{Issued, IssuedOrStanding, Sized, Use, called, returned, used}
 use Rattle.promises.proofs.Steps.{after-stands}
-
--- of the right length, and all zero
-pub record Issued (s : List ℕ) : Type 0 where
-  pub long : length s ≡ 3333
-  pub zero : allZero s ≡ true
-
-abbrev pub IssuedOrStanding : List ℕ → Type 0
-IssuedOrStanding s = Issued s ⊎ StandsIn s
-
--- settings come with arrays of their lengths
-abbrev pub Sized : Call → Type 0
-Sized (opens x) = (length (x .eligibility) ≡ 32) × (length (x .row) ≡ 8)
-Sized (files c) = Unit {0}
-Sized counts = Unit {0}
-Sized (calculates draw) = Unit {0}
-Sized (reports b) = Unit {0}
-Sized results = Unit {0}
-Sized (reads c n) = Unit {0}
-Sized (writes room n b r ls) = Unit {0}
 
 module _ (s : List ℕ) (I : Issued s) where
   stays : (t : List ℕ) → t ≡ s → IssuedOrStanding t
@@ -70,16 +52,6 @@ return-keeps s l =
 long-of : (s : List ℕ) → IssuedOrStanding s → length s ≡ 3333
 long-of s (inl I) = I .long
 long-of s (inr S) = S .long
-
--- a box is called and returned, in any order
-pub data Use : Type 0 where
-  called : (c : Call) → Sized c → Use
-  returned : Use
-
-abbrev pub used : List ℕ → List Use → List ℕ
-used s [] = s
-used s (called c h ∷ us) = used (after s c) us
-used s (returned ∷ us) = used (returnCall s .bytes) us
 
 -- from an issued or standing state no order of calls and returns leads anywhere else
 pub never-astray : (s : List ℕ) → IssuedOrStanding s → (us : List Use) → IssuedOrStanding (used s us)

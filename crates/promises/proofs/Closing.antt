@@ -29,7 +29,8 @@ use Rattle.rules.proofs.Bids.{bids-accepted}
 use Rattle.rules.proofs.Calling.{granted}
 use Rattle.rules.proofs.Round.{round-closes}
 use Rattle.rules.proofs.Offers.{closed-within}
-use Rattle.rules.proofs.OneCall.{StandsIn, stood, of-standing, open-stands, open-loaded, open-standing, file-refused, calculate-accepts, calculate-loaded, calculate-refused}
+use Rattle.rules.specs.OneCall.{StandsIn}
+use Rattle.rules.proofs.OneCall.{stood, of-standing, open-stands, open-loaded, open-standing, file-refused, calculate-accepts, calculate-loaded, calculate-refused}
 use Rattle.promises.specs.Runs.{Call, opens, files, counts, calculates, reports, results, reads, writes, after, run, openedBy, filledPart, Round, roundOf}
 use Rattle.promises.specs.Awards.{Closed, awardOn, paidFor}
 use Rattle.promises.proofs.Promised.{never-falls}

@@ -17,12 +17,12 @@ use Rattle.rules.specs.Round.{calculated}
 use Rattle.rules.specs.Layout.{loaded}
 use Rattle.rules.specs.Standing.{isOpen}
 use Rattle.rules.specs.Calls.{openNumber, withCard, calculateNumber, calculateCall}
-use Rattle.rules.proofs.Stands.{Stands, Long}
+use Rattle.rules.specs.Stands.{Stands, Long}
 use Rattle.rules.proofs.Storing.{loaded-long}
 use Rattle.rules.proofs.Bids.{bids-accepted}
-use Rattle.rules.proofs.Prices.{PriceAfter}
+use Rattle.rules.specs.OneCall.{PriceAfter, StandsIn}
 use Rattle.rules.proofs.Round.{round-prices}
-use Rattle.rules.proofs.OneCall.{StandsIn, stood, open-stands, calculate-accepts, calculate-loaded}
+use Rattle.rules.proofs.OneCall.{stood, open-stands, calculate-accepts, calculate-loaded}
 use Rattle.promises.specs.Runs.{Call, after, run, openedBy, Round}
 use Rattle.promises.proofs.Steps.{Step, same, card, round, step, opened-stands, opened-terms, parts-later}
 

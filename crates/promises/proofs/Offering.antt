@@ -13,12 +13,13 @@ use Rattle.rules.specs.Settings.{termsOf}
 use Rattle.rules.specs.Held.{nothing, goingIn, deniedIn, retainedIn, place}
 use Rattle.rules.specs.Layout.{loaded}
 use Rattle.rules.specs.Calls.{opened, openNumber, withCard}
-use Rattle.rules.proofs.Stands.{Stands, Long}
+use Rattle.rules.specs.Stands.{Stands, Long}
 use Rattle.rules.proofs.Storing.{loaded-long}
 use Rattle.rules.proofs.Opening.{blank}
 use Rattle.rules.proofs.Bids.{bids-accepted}
 use Rattle.rules.proofs.Offers.{Backed, round-offers, award-going, award-denied, award-retained}
-use Rattle.rules.proofs.OneCall.{StandsIn, stood, open-stands, open-loaded}
+use Rattle.rules.specs.OneCall.{StandsIn}
+use Rattle.rules.proofs.OneCall.{stood, open-stands, open-loaded}
 use Rattle.promises.specs.Runs.{Call, after, run, openedBy, Round, roundOf, rounds}
 use Rattle.promises.specs.Offered.{InSome, InLast, BeforeLast, OfferedGoing, OfferedBefore, OfferedAtExit}
 use Rattle.promises.specs.Awards.{Closed}

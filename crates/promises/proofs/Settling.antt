@@ -1,5 +1,5 @@
 -- "What the contracts have to settle": one outcome for every input, and the useless boxes shut out. Assumes nothing.
-use mathlib.Core.Path.{_≡_, refl, sym, _∙_, ap}
+use mathlib.Core.Path.{_≡_, refl, sym, _∙_, ap, subst}
 use mathlib.Core.Bool.{Bool, true, false, cond}
 use mathlib.Core.List.{List, [], _∷_}
 use Prim.Native.Nat.{ℕ}
@@ -23,9 +23,10 @@ use Rattle.rules.specs.Layout.{loaded}
 use Rattle.rules.specs.Calls.{openCall, fileCall, countCall, calculateNumber, calculationDone, calculateCall, reportCall, resultCall, returnCall, readCall, writeCall}
 use Rattle.rules.proofs.Storing.{loaded-long}
 use Rattle.rules.proofs.Bids.{bids-accepted}
-use Rattle.rules.specs.Counted.{keptWhereTicked, outbidOf}
+use Rattle.rules.specs.Counted.{keptWhereTicked, CountsOutbid}
 use Rattle.rules.proofs.Round.{round-kept, round-outbid}
-use Rattle.rules.proofs.OneCall.{StandsIn, stood, calculate-accepts, calculate-loaded}
+use Rattle.rules.specs.OneCall.{StandsIn}
+use Rattle.rules.proofs.OneCall.{stood, calculate-accepts, calculate-loaded}
 use Rattle.promises.specs.Demands.{Leaves}
 
 -- ---- one outcome
@@ -100,9 +101,10 @@ module _ (s : List ℕ) (S : StandsIn s) (draw : List ℕ) (k o : ℕ) (d : calc
 
   -- "The second equals the kept tranches that stood before on the other products, less those deemed bid in step 3, less those still
   -- kept there."
-  pub outbid-count : o ≡ outbidOf a draw z
+  pub outbid-count : CountsOutbid a draw z o
   outbid-count =
       let A = accepted in
       let c = calculate-accepts s S draw (A .0) in
       rw (calculate-loaded s S draw (A .0))
-      (sym (A .2) ∙ round-outbid a draw (stood s S) (loaded-long s) (c .0) (c .1) (bids-accepted a (stood s S) (c .0)))
+      (subst (λ n. CountsOutbid a draw (calculated a draw .auction) n) (A .2)
+      (round-outbid a draw (stood s S) (loaded-long s) (c .0) (c .1) (bids-accepted a (stood s S) (c .0))))

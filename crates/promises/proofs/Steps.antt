@@ -17,11 +17,12 @@ use Rattle.rules.specs.Round.{drawFits, calculated}
 use Rattle.rules.specs.Layout.{loaded}
 use Rattle.rules.specs.Standing.{isOpen}
 use Rattle.rules.specs.Calls.{opened, openNumber, fileNumber, fileCall, withCard, calculateNumber, calculateCall}
-use Rattle.rules.proofs.Stands.{Stands, Long}
+use Rattle.rules.specs.Stands.{Stands, Long}
 use Rattle.rules.proofs.Storing.{loaded-long}
 use Rattle.rules.proofs.Bids.{bids-accepted}
 use Rattle.rules.proofs.Round.{round-terms, round-filled, round-prices}
-use Rattle.rules.proofs.OneCall.{StandsIn, stood, open-stands, open-loaded, open-standing, file-loaded, file-refused, file-stands, calculate-accepts, calculate-loaded, calculate-refused, calculate-stands}
+use Rattle.rules.specs.OneCall.{StandsIn}
+use Rattle.rules.proofs.OneCall.{stood, open-stands, open-loaded, open-standing, file-loaded, file-refused, file-stands, calculate-accepts, calculate-loaded, calculate-refused, calculate-stands}
 use Rattle.promises.specs.Runs.{Call, opens, files, counts, calculates, reports, results, reads, writes, after, run, openedBy, filledPart, Round, roundOf}
 
 -- ---- one call

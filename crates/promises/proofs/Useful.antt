@@ -38,7 +38,8 @@ use Rattle.rules.specs.Standing.{isOpen}
 use Rattle.rules.specs.Calls.{opened, openNumber, openCall, ofState, cardNumber, fileCall, openNumberOf, countCall, drawNumber, calculateNumber, calculateCall, bidderNumber, reportCall, closedNumber, resultCall, returnCall, readCall, writeCall}
 use Rattle.rules.proofs.Lists.{clash}
 use Rattle.rules.proofs.Calling.{granted}
-use Rattle.rules.proofs.OneCall.{StandsIn, not-issued, of-standing, zeros, open-stands, open-loaded, open-standing, calculate-accepts, calculate-loaded, calculate-stands, return-issued}
+use Rattle.rules.specs.OneCall.{StandsIn}
+use Rattle.rules.proofs.OneCall.{not-issued, of-standing, zeros, open-stands, open-loaded, open-standing, calculate-accepts, calculate-loaded, calculate-stands, return-issued}
 use Rattle.promises.specs.Runs.{openedBy}
 use Rattle.promises.specs.Awards.{Closed}
 use Rattle.promises.proofs.Closing.{closed-gives}

@@ -1,4 +1,5 @@
 pub mod Runs
+pub mod Hires
 pub mod Offered
 pub mod Awards
 pub mod Demands

@@ -12,7 +12,7 @@ use Rattle.rules.specs.Bid.{recordOf, priceAt, beforeAt, onProduct, hasF
 use Rattle.rules.specs.Standing.{isOpen}
 use Rattle.rules.proofs.Lists.{list-at}
 use Rattle.rules.proofs.Tests.{told}
-use Rattle.rules.proofs.Stands.{Stands, Accepted}
+use Rattle.rules.specs.Stands.{Stands, Accepted}
 use Rattle.rules.proofs.Judged.{judged-take, accepted-ext}
 use Rattle.rules.proofs.Default.{default-accepted}
 

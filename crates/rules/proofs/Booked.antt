@@ -25,7 +25,7 @@ use Rattle.rules.specs.Standing.{isOpen}
 use Rattle.rules.proofs.Sums.{sum-ext, sum-le, sum-six, sum-ge, sum-add, sum-zero}
 use Rattle.rules.proofs.Lists.{clash}
 use Rattle.rules.proofs.Signed.{above-true, above-false}
-use Rattle.rules.proofs.Stands.{Stands, Long}
+use Rattle.rules.specs.Stands.{Stands, Long}
 use Rattle.rules.proofs.Places.{goingOf, deniedOf, retainedOf, exitOf, worthOf}
 use Rattle.rules.proofs.Keep.{Moved, Ended, keep-ends, kept-met}
 use Rattle.rules.proofs.Outbidding.{freeAt, Deemed, deemed-each, deemed-long, deemed-not, Outed, OutEnded, out-ends}

@@ -21,7 +21,7 @@ use Rattle.rules.specs.Layout.{stored, loaded}
 use Rattle.rules.specs.Calls.{opened, bidNumber, cardNumber, bidderOn, afterCard}
 use Rattle.rules.proofs.Lists.{all-give, list-long}
 use Rattle.rules.proofs.Tests.{told}
-use Rattle.rules.proofs.Stands.{Long, Stands}
+use Rattle.rules.specs.Stands.{Long, Stands}
 use Rattle.rules.proofs.Opening.{blank, opened-stands, opened-long}
 use Rattle.rules.proofs.Filing.{filed-stands, filed-long, bits-filed}
 use Rattle.rules.proofs.Fitting.{standing-loads}

@@ -14,7 +14,7 @@ use Rattle.rules.specs.Standing.{isOpen}
 use Rattle.rules.proofs.Sums.{sum-ext, sum-le, sum-zero}
 use Rattle.rules.proofs.Lists.{all-give, clash}
 use Rattle.rules.proofs.Signed.{above-true}
-use Rattle.rules.proofs.Stands.{Stands, Accepted}
+use Rattle.rules.specs.Stands.{Stands, Accepted}
 
 -- what a default line is
 record Default (tick : Bool) (q : ℕ) (r : Record) (l : Line) : Type 0 where

@@ -18,7 +18,7 @@ use Rattle.rules.specs.Bid.{judged, hasFiled, slotOf}
 use Rattle.rules.specs.Standing.{isOpen, zeroFrom, slotStands}
 use Rattle.rules.specs.Calls.{withCard}
 use Rattle.rules.proofs.Lists.{list-ext, list-is}
-use Rattle.rules.proofs.Stands.{Long, Stands}
+use Rattle.rules.specs.Stands.{Long, Stands}
 use Rattle.rules.proofs.Judged.{judged-ext}
 use Rattle.rules.proofs.Bitmap.{setIn-same, setIn-other, setIn-lt, sets-in, sets-under, sets-over}
 

@@ -20,7 +20,7 @@ use Rattle.rules.specs.Layout.{stored, loaded, allZero}
 use Rattle.rules.proofs.Sums.{sum-le}
 use Rattle.rules.proofs.Lists.{all-take, list-at}
 use Rattle.rules.proofs.Tests.{told, shown}
-use Rattle.rules.proofs.Stands.{Long, Stands, Accepted}
+use Rattle.rules.specs.Stands.{Long, Stands, Accepted}
 use Rattle.rules.proofs.Judged.{judged-take}
 use Rattle.rules.proofs.Priorities.{sum-const, priority-small}
 use Rattle.rules.proofs.Storing.{Fits, loads, stored-some}

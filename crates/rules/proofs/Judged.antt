@@ -16,7 +16,7 @@ use Rattle.rules.specs.Bid.{bidIn, withdrawnIn, exitOn, reduction, incre
 use Rattle.rules.proofs.Sums.{sum-ext, sum-six, and-left}
 use Rattle.rules.proofs.Lists.{both, all-give, all-take, all-ext}
 use Rattle.rules.proofs.Tests.{told, shown}
-use Rattle.rules.proofs.Stands.{Accepted}
+use Rattle.rules.specs.Stands.{Accepted}
 
 -- a number not given
 passed : (t : Bool) (n x : ℕ) → 0 < n → cond t n x ≡ 0 → (t ≡ false) × (x ≡ 0)

@@ -12,9 +12,9 @@ use Rattle.rules.specs.declared.Pick.the-variants.{At, Nobody}
 use Rattle.rules.specs.declared.Place.{Place}
 use Rattle.rules.specs.declared.Kept.{Kept}
 use Rattle.rules.specs.Count.{sumUpTo, firstUpTo, never}
+use Rattle.rules.specs.Keep.{Keepable, risen, cancelBy, short, leaver, mover, denyAt, keepMover, keepBy, keepStep, kept, whileShort, keepLoop}
 use Rattle.rules.specs.Held.{standing, below}
 use Rattle.rules.specs.Accept.{placeAt, changed, heldOf, keptOf, leftOf, leavingOf, leavingAt, movingOf, riseOf, retain, deny, cancel, column, rowOf, every}
-use Rattle.rules.specs.Keep.{risen, cancelBy, short, leaver, mover, denyAt, keepMover, keepBy, keepStep, kept, whileShort, keepLoop}
 use Rattle.rules.proofs.Sums.{sum-le, sum-six, sum-ge, sum-pos, sum-one, and-left, and-right, best-found, best-none}
 use Rattle.rules.proofs.Lists.{clash}
 use Rattle.rules.proofs.Signed.{below-true, below-false}
@@ -102,14 +102,6 @@ moved-cancel x h l = record {
   exit-same = λ e. refl;
   exit-new = λ l. absurd (let z : ⊥ = omega arith in z);
 }
-
--- the places that accepted bids make, and that keeping leaves
-pub record Keepable (m n : ℕ) (target : ℕ → ℕ) (tick : ℕ → Bool) (ps : List Place) : Type 0 where
-  pub long : n * 8 ≤ length ps
-  pub full : (p : ℕ) → p < m → tick p ≡ true → target p + column riseOf ps p n < column heldOf ps p n + column leftOf ps p n
-  pub owed : (b : ℕ) → b < n → rowOf movingOf ps b m ≤ rowOf riseOf ps b m
-  pub rises : (j : ℕ) → riseOf (placeAt ps j) ≤ goingOf (placeAt ps j)
-  pub settled : (p : ℕ) → p < m → tick p ≡ true → 0 < column keptOf ps p n → column heldOf ps p n ≤ target p
 
 -- what one step on product p does
 pub record Stepped (m n p : ℕ) (ps ps′ : List Place) : Type 0 where

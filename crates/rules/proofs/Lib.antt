@@ -3,7 +3,6 @@ pub mod Lists
 pub mod Fill
 pub mod Tests
 pub mod Signed
-pub mod Stands
 pub mod Standing
 pub mod Judged
 pub mod Default

@@ -19,9 +19,9 @@ use Rattle.rules.specs.Standing.{keptOn, recordZero, zeroFrom}
 use Rattle.rules.proofs.Sums.{sum-ext, sum-six, sum-zero, and-left, and-right}
 use Rattle.rules.proofs.Lists.{all-take, list-at, list-long}
 use Rattle.rules.proofs.Signed.{above-true}
-use Rattle.rules.proofs.Stands.{Stands, Accepted}
+use Rattle.rules.specs.Stands.{Stands, Accepted}
 use Rattle.rules.proofs.Places.{goingOf, deniedOf, retainedOf, exitOf}
-use Rattle.rules.proofs.Keep.{Keepable}
+use Rattle.rules.specs.Keep.{Keepable}
 
 -- every bid of the round, a card's or the default, is one that 8 to 13 accept
 abbrev pub AllAccepted : Auction → Type 0

@@ -20,7 +20,7 @@ use Rattle.rules.specs.Report.{highestIn, highestUpTo, paidOn}
 use Rattle.rules.specs.Standing.{isOpen, openStands}
 use Rattle.rules.proofs.Sums.{sum-ge, and-right}
 use Rattle.rules.proofs.Signed.{above-zero}
-use Rattle.rules.proofs.Stands.{Stands, Long}
+use Rattle.rules.specs.Stands.{Stands, Long}
 use Rattle.rules.proofs.Places.{goingOf, deniedOf, retainedOf, exitOf, worthOf}
 use Rattle.rules.proofs.Outbidding.{deemed-exact}
 use Rattle.rules.proofs.Made.{AllAccepted}

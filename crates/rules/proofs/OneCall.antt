@@ -16,6 +16,7 @@ use Rattle.rules.specs.declared.Calculation.{Calculation}
 use Rattle.rules.specs.declared.Calculation.the-variants as calculation
 use Rattle.rules.specs.Answers.{Outcome, outcome, unlessRefused, closed, stopped}
 use Rattle.rules.specs.Settings.{settingsFit, termsOf}
+use Rattle.rules.specs.OneCall.{StandsIn, RefusedSame, FiledOnly}
 use Rattle.rules.specs.Held.{excess}
 use Rattle.rules.specs.Round.{drawFits, afterStep2, afterStep4, atRest, onward, stops, settled, calculated}
 use Rattle.rules.specs.Layout.{stateLength, stored, loaded, allZero}
@@ -24,7 +25,7 @@ use Rattle.rules.specs.Card.{readCard, cardOf, writeNumber, writeCard}
 use Rattle.rules.specs.Bid.{hasFiled, slotOf}
 use Rattle.rules.specs.Calls.{opened, openNumber, openCall, ofState, cardNumber, fileNumber, bidderOn, afterCard, fileCall, countNumber, drawNumber, calculateNumber, calculationDone, calculateCall, reportNumber, resultNumber, returnNumber, returnCall, writeCall}
 use Rattle.rules.proofs.Lists.{clash, all-give, all-take}
-use Rattle.rules.proofs.Stands.{Stands}
+use Rattle.rules.specs.Stands.{Stands}
 use Rattle.rules.proofs.Standing.{stands-take, stands-give}
 use Rattle.rules.proofs.Bids.{bids-accepted}
 use Rattle.rules.proofs.Opening.{blank}
@@ -33,12 +34,6 @@ use Rattle.rules.proofs.Storing.{stored-long, loaded-long, loaded-bits,
 use Rattle.rules.proofs.Fitting.{phase-small, standing-loads}
 use Rattle.rules.proofs.Calling.{granted, opens, opens-loads, read-long, file-take, files, files-loads}
 use Rattle.rules.proofs.Round.{round-stands, round-long}
-
--- bytes that are a standing state
-pub record StandsIn (s : List ℕ) : Type 0 where
-  pub long : length s ≡ 3333
-  pub standing : stands (loaded s) ≡ true
-  pub bits : loaded s .filed < 4294967296
 
 -- "Standing means", of the auction that the bytes hold
 pub stood : (s : List ℕ) → StandsIn s → Stands (loaded s)
@@ -109,14 +104,6 @@ calculate-same : (s : List ℕ) (n : ℕ) (done : Outcome Calculation) (k : ℕ)
     → cond t done (outcome (calculation.Refused k) s) .answer ≡ calculation.Refused n → cond t done (outcome (calculation.Refused k) s) .bytes ≡ s
 calculate-same s n done k d true e = let f = d .2 in let z : _≡_ {A = ℕ} 0 1 = cc in absurd (let x : ⊥ = omega arith in x)
 calculate-same s n done k d false e = refl
-
--- each refusal "changes no lent byte"
-pub record RefusedSame (s : List ℕ) (n : ℕ) : Type 0 where
-  pub opening : (x : Settings) → openCall s x .answer ≡ answer.Refused n → openCall s x .bytes ≡ s
-  pub filing : (c : List ℕ) → fileCall s c .answer ≡ answer.Refused n → fileCall s c .bytes ≡ s
-  pub calculating : (draw : List ℕ) → calculateCall s draw .answer ≡ calculation.Refused n → calculateCall s draw .bytes ≡ s
-  pub returning : returnCall s .answer ≡ answer.Refused n → returnCall s .bytes ≡ s
-  pub writing : (m b r : ℕ) (ls : List Line) → writeCall s m b r ls .answer ≡ answer.Refused n → writeCall s m b r ls .bytes ≡ s
 
 pub refused-same : (s : List ℕ) (n : ℕ) → RefusedSame s n
 unfolding openCall fileCall calculateCall returnCall writeCard
@@ -192,12 +179,6 @@ open-standing s x S =
     (rw n, rw n)
 
 -- ---- file
-
--- from a to z bidder b has filed the lines ls, and no other bidder's slot has changed
-pub record FiledOnly (a z : Auction) (b : ℕ) (ls : List Line) : Type 0 where
-  pub filed : hasFiled z b ≡ true
-  pub lines : slotOf z b ≡ ls
-  pub others : (o : ℕ) → (o ≡ b → ⊥) → (hasFiled z o ≡ hasFiled a o) × (slotOf z o ≡ slotOf a o)
 
 module _ (s : List ℕ) (S : StandsIn s) (c : List ℕ) where
   file-accepts : fileNumber s c ≡ 0 → cardNumber c (loaded s) ≡ 0

@@ -17,7 +17,7 @@ use Rattle.rules.specs.Standing.{keptOn, slotStands, phaseStands, stands
 use Rattle.rules.specs.Calls.{opened}
 use Rattle.rules.proofs.Sums.{sum-ext, sum-zero}
 use Rattle.rules.proofs.Lists.{both, all-give, list-at, list-long}
-use Rattle.rules.proofs.Stands.{Long, Stands}
+use Rattle.rules.specs.Stands.{Long, Stands}
 use Rattle.rules.proofs.Standing.{limits-take, stands-give}
 
 -- a list of one thing has it everywhere

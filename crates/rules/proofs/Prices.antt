@@ -16,6 +16,7 @@ use Rattle.rules.specs.declared.Auction.{Auction}
 use Rattle.rules.specs.Count.{never, isAt, listOf}
 use Rattle.rules.specs.Answers.{closed}
 use Rattle.rules.specs.Settings.{targetOf, percentOf, decrementOf}
+use Rattle.rules.specs.OneCall.{PriceAfter}
 use Rattle.rules.specs.Held.{held, above, aboveZero, standingOf}
 use Rattle.rules.specs.Bid.{priceAt, beforeAt}
 use Rattle.rules.specs.Price.{decrementUpTo, decrementFor, fallen, nextPrice, nextBefore}
@@ -24,7 +25,7 @@ use Rattle.rules.specs.Standing.{isOpen}
 use Rattle.rules.proofs.Sums.{best-none}
 use Rattle.rules.proofs.Lists.{clash, list-at}
 use Rattle.rules.proofs.Signed.{above-true, above-false, lt-above}
-use Rattle.rules.proofs.Stands.{Limits, Stands}
+use Rattle.rules.specs.Stands.{Limits, Stands}
 
 -- no decrement is above 500 basis points
 decrement-small : (t : Terms) → Limits t → (pct n : ℕ) → n ≤ t .rows → decrementUpTo t pct n ≤ 500
@@ -56,16 +57,6 @@ and-false false u e f = clash e refl
 pub record Priced (a : Auction) (p x price before : ℕ) : Type 0 where
   pub fell : targetOf (a .terms) p < x → (1 ≤ price) × (price < priceAt a p) × (before ≡ priceAt a p)
   pub stayed : x ≤ targetOf (a .terms) p → (price ≡ priceAt a p) × (before ≡ beforeAt a p)
-
--- the prices of product p in a and in the auction z that a round makes of it
-pub record PriceAfter (a z : Auction) (p : ℕ) : Type 0 where
-  pub some : 1 ≤ priceAt z p
-  pub no-rise : priceAt z p ≤ priceAt a p
-  pub fell : isOpen z ≡ true → targetOf (a .terms) p < held (z .records) (a .terms .bidders) p
-      → (priceAt z p < priceAt a p) × (beforeAt z p ≡ priceAt a p)
-  pub stayed : isOpen z ≡ true → held (z .records) (a .terms .bidders) p ≤ targetOf (a .terms) p
-      → (priceAt z p ≡ priceAt a p) × (beforeAt z p ≡ beforeAt a p)
-  pub ended : isOpen z ≡ false → (priceAt z p ≡ priceAt a p) × (beforeAt z p ≡ beforeAt a p)
 
 -- the prices of the next round, and the prices before them
 abbrev pub nextPrices : Auction → Outbid → List ℕ

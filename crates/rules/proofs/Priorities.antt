@@ -14,7 +14,7 @@ use Rattle.rules.specs.Bid.{bidIn, reduction, reductions, increases, inc
 use Rattle.rules.proofs.Sums.{sum-ext, sum-six, sum-add, sum-zero, sum-ge, sum-pos, and-left, and-right}
 use Rattle.rules.proofs.Lists.{all-take}
 use Rattle.rules.proofs.Tests.{told}
-use Rattle.rules.proofs.Stands.{Accepted}
+use Rattle.rules.specs.Stands.{Accepted}
 
 -- the same number n times
 pub sum-const : (x n : ℕ) → sumUpTo (λ i. x) n ≡ x * n

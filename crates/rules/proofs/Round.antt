@@ -17,14 +17,14 @@ use Rattle.rules.specs.Accept.{placeAt, acceptedAll, keptOf, riseOf, dee
 use Rattle.rules.specs.Outbid.{deemIf, deemedUpTo}
 use Rattle.rules.specs.Round.{drawFits, afterStep2, afterStep4, calculated}
 use Rattle.rules.specs.Standing.{keptOn, isOpen}
-use Rattle.rules.specs.Counted.{keptWhereTicked, deemedAt, outbidOf}
+use Rattle.rules.specs.Counted.{keptWhereTicked, deemedAt, CountsOutbid}
 use Rattle.rules.proofs.Sums.{sum-ext, sum-six, sum-zero}
-use Rattle.rules.proofs.Stands.{Stands, Long}
+use Rattle.rules.specs.Stands.{Stands, Long}
 use Rattle.rules.proofs.Places.{deniedOf}
 use Rattle.rules.proofs.Outbidding.{deemed-exact}
 use Rattle.rules.proofs.Made.{AllAccepted, made-none}
 use Rattle.rules.proofs.Booked.{Booked, kept-end, out-end, unticked, kept-ticked, booked}
-use Rattle.rules.proofs.Prices.{PriceAfter}
+use Rattle.rules.specs.OneCall.{PriceAfter}
 use Rattle.rules.proofs.Settled.{Closes, settled-stands, settled-long, settled-prices, settled-closes, settled-terms, settled-held, settled-kept, settled-eligibility}
 
 module _ (a : Auction) (draw : List ℕ) (S : Stands a) (L : Long a) (op : isOpen a ≡ true)
@@ -136,7 +136,7 @@ module _ (a : Auction) (draw : List ℕ) (S : Stands a) (L : Long a) (op : isOpe
       omega (arith, sum-zero n)
 
   -- the count of step 4 is those kept before on the other products, less those deemed bid in step 3, less those still kept there
-  pub round-outbid : calculated a draw .outbid ≡ outbidOf a draw (calculated a draw .auction)
+  pub round-outbid : CountsOutbid a draw (calculated a draw .auction) (calculated a draw .outbid)
   unfolding calculated
   round-outbid =
       let x = sum-six (λ p. cond (ticked a p) 0 (column keptOf l3 p n)) (λ p. cond (ticked a p) 0 (sumUpTo (λ b. deemedAt l2 b p) n)) (λ p. 0)

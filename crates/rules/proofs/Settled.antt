@@ -23,11 +23,12 @@ use Rattle.rules.specs.Standing.{keptOn, recordZero, slotStands, phaseSt
 use Rattle.rules.proofs.Sums.{sum-ext, sum-le, sum-ge, sum-add}
 use Rattle.rules.proofs.Lists.{clash, both, all-give, list-at, list-long}
 use Rattle.rules.proofs.Signed.{above-zero}
-use Rattle.rules.proofs.Stands.{Stands, Long}
+use Rattle.rules.specs.Stands.{Stands, Long}
 use Rattle.rules.proofs.Places.{worthOf}
 use Rattle.rules.proofs.Made.{NoRecord}
 use Rattle.rules.proofs.Booked.{Booked}
-use Rattle.rules.proofs.Prices.{cond-false, Priced, PriceAfter, nextPrices, nextBefores, next, next-none}
+use Rattle.rules.specs.OneCall.{PriceAfter}
+use Rattle.rules.proofs.Prices.{cond-false, Priced, nextPrices, nextBefores, next, next-none}
 
 -- where a round closes: no award above a target, the target where it was filled, and for each bidder no less than it bid
 pub record Closes (a z : Auction) : Type 0 where

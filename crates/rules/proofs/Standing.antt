@@ -3,7 +3,7 @@ use mathlib.Core.Path.{_≡_, refl}
 use mathlib.Core.Bool.{Bool, true, false, _&&_}
 use Prim.Native.Nat.{ℕ, _+_, _*_, _/_, _%_, _≤_, _<_}
 use native.Mathlib.Omega.{arith}
-use borrow.Author.Tests.{ltb-true, ltb-false, lt-ltb, le-ltb, le-leb, eq-eqb}
+use borrow.Author.Tests.{ltb-true, ltb-false, lt-ltb, le-ltb, le-leb, eq-eqb, ne-eqb}
 use lib.Dec.{eqb, ltb}
 use Rattle.rules.specs.declared.Record.{Record}
 use Rattle.rules.specs.declared.Terms.{Terms}
@@ -16,7 +16,7 @@ use Rattle.rules.proofs.Sums.{and-left, and-right}
 use Rattle.rules.proofs.Lists.{all-give, all-take}
 use Rattle.rules.proofs.Signed.{above-true, lt-above}
 use Rattle.rules.proofs.Tests.{told, shown}
-use Rattle.rules.proofs.Stands.{Limits, Stands}
+use Rattle.rules.specs.Stands.{Limits, Stands}
 
 -- ---- settings
 
@@ -58,6 +58,7 @@ module _ (t : Terms) (w : withinLimits t ≡ true) where
     rows = rows-most;
     unit = search told;
     target = λ p h. search (item-in p h);
+    ranked = λ p g h. let x = rw (lt-ltb p (t .products) h, ne-eqb p 0 (λ z. omega arith)) at (all-items p (omega (arith, products-most))) in search told;
     cap = λ p h. search (item-in p h);
     start = λ p h. search (item-in p h);
     no-item = λ p h l. let x = rw (le-ltb p (t .products) h) at (all-items p l) in search told;
@@ -65,6 +66,7 @@ module _ (t : Terms) (w : withinLimits t ≡ true) where
     initial = λ b h. let x = rw (lt-ltb b (t .bidders) h) at (all-bidders b (omega (arith, bidders-most))) in search told;
     no-bidder = λ b h l. let x = rw (le-ltb b (t .bidders) h) at (all-bidders b l) in search told;
     first-percent = let x = rw (lt-ltb 0 (t .rows) (search told)) at (all-rows 0 (omega arith)) in search told;
+    rising = λ i g h. let x = rw (lt-ltb i (t .rows) h, ne-eqb i 0 (λ z. omega arith)) at (all-rows i (omega (arith, rows-most))) in search told;
     percent = λ i. percent-by i (ltb i (t .rows)) refl;
     decrement = λ i h. let x = rw (lt-ltb i (t .rows) h) at (all-rows i (omega (arith, rows-most))) in search told;
     no-row = λ i h l. let x = rw (le-ltb i (t .rows) h) at (all-rows i l) in search told;

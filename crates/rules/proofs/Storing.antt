@@ -18,7 +18,7 @@ use Rattle.rules.specs.Held.{nothing, goingIn, deniedIn, retainedIn, exi
 use Rattle.rules.specs.Bid.{bidIn, withdrawnIn, exitOn, priceAt, beforeAt}
 use Rattle.rules.specs.Units.{tranches}
 use Rattle.rules.proofs.Lists.{list-is, list-long, not-all}
-use Rattle.rules.proofs.Stands.{Long}
+use Rattle.rules.specs.Stands.{Long}
 
 -- every field fits its bytes
 pub record Fits (a : Auction) : Type 0 where

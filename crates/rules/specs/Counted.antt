@@ -1,7 +1,8 @@
 -- What the records before and after a calculation say of its two counts. Assumes nothing.
+use mathlib.Core.Path.{_≡_}
 use mathlib.Core.Bool.{cond}
 use mathlib.Core.List.{List}
-use Prim.Native.Nat.{ℕ, _-_, _*_, _+_}
+use Prim.Native.Nat.{ℕ, _*_, _+_}
 use lib.Dec.{ltb}
 use Rattle.rules.specs.declared.Place.{Place}
 use Rattle.rules.specs.declared.Auction.{Auction}
@@ -27,6 +28,7 @@ abbrev pub deemedIn : Auction → List ℕ → ℕ
 deemedIn a draw =
     sumUpTo (λ p. cond (ticked a p) 0 (sumUpTo (λ b. deemedAt (afterStep2 a draw .places) b p) (a .terms .bidders))) (a .terms .products)
 
--- "the kept tranches that stood before on the other products, less those deemed bid in step 3, less those still kept there"
-abbrev pub outbidOf : Auction → List ℕ → Auction → ℕ
-outbidOf a draw z = keptOnOthers a a - deemedIn a draw - keptOnOthers a z
+-- "the kept tranches that stood before on the other products, less those deemed bid in step 3, less those still kept there": o, as
+-- a balance, so that nothing is taken from less
+abbrev pub CountsOutbid : Auction → List ℕ → Auction → ℕ → Type 0
+CountsOutbid a draw z o = o + deemedIn a draw + keptOnOthers a z ≡ keptOnOthers a a

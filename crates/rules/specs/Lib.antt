@@ -14,5 +14,7 @@ pub mod Round
 pub mod Report
 pub mod Layout
 pub mod Standing
+pub mod Stands
 pub mod Counted
 pub mod Calls
+pub mod OneCall

@@ -23,6 +23,7 @@ pub record Limits (t : Terms) : Type 0 where
   pub rows : t .rows ≤ 8
   pub unit : t .unit ≤ 1
   pub target : (p : ℕ) → p < t .products → (1 ≤ targetOf t p) × (targetOf t p ≤ 200)
+  pub ranked : (p : ℕ) → 0 < p → p < t .products → targetOf t p ≤ targetOf t (p - 1)
   pub cap : (p : ℕ) → p < t .products → (1 ≤ capOf t p) × (capOf t p ≤ targetOf t p)
   pub start : (p : ℕ) → p < t .products → (1 ≤ startOf t p) × (startOf t p ≤ 99999)
   pub no-item : (p : ℕ) → t .products ≤ p → p < 8 → (targetOf t p ≡ 0) × (capOf t p ≡ 0) × (startOf t p ≡ 0)
@@ -30,6 +31,7 @@ pub record Limits (t : Terms) : Type 0 where
   pub initial : (b : ℕ) → b < t .bidders → (1 ≤ initialOf t b) × (initialOf t b ≤ t .statewide .0)
   pub no-bidder : (b : ℕ) → t .bidders ≤ b → b < 32 → initialOf t b ≡ 0
   pub first-percent : percentOf t 0 ≡ 0
+  pub rising : (i : ℕ) → 0 < i → i < t .rows → percentOf t (i - 1) < percentOf t i
   pub percent : (i : ℕ) → i < 8 → percentOf t i ≤ 60000
   pub decrement : (i : ℕ) → i < t .rows → (50 ≤ decrementOf t i) × (decrementOf t i ≤ 500)
   pub no-row : (i : ℕ) → t .rows ≤ i → i < 8 → (percentOf t i ≡ 0) × (decrementOf t i ≡ 0)
