@@ -1,92 +1,101 @@
-// The commands that are calls of the console. A call is lent the first n bytes of the state.
-use prepare::Desk;
-use prepare::all_numbers;
-use prepare::ends;
-use prepare::one_byte;
-use prepare::wide;
+// The calls on an auction. A call that changes the state is made on a copy of it.
+use asked::Some;
+use asked::draw_of;
+use asked::ends;
+use asked::one_byte;
+use asked::one_number;
+use boxed::Kind;
+use boxed::is_wrong;
+use boxed::keep;
+use boxed::number_on;
 use rules::Answer;
 use rules::Award;
 use rules::Awarded;
 use rules::Calculation;
 use rules::Count;
-use rules::Phase;
 use rules::Report;
 use rules::Reported;
 use rules::Settings;
-use say::named;
-use say::refused;
-use say::text;
-use say::wrong;
+use say::line as say_line;
+use say::put;
+use say::put_named;
+use say::send;
+use told::refused;
 use words::Cursor;
 
-pub fn answered(answer: Answer, done: &[u8]) {
-    match answer {
-        Answer::Done => text(done),
-        Answer::Refused(n) => refused(n),
+// ---- `open` and `return`
+
+fn done(kind: Kind, path: &[u8], state: &mut [u8; 3333], work: [u8; 3333]) {
+    if keep(kind, path, state, work) {
+        say_line(b"ok\n");
     }
 }
 
-// ---- `open`, `return` and `count`
-
-fn open_on(state: &mut [u8], n: usize, settings: Settings) -> Answer {
-    if n < state.len() {
-        return console::open(&mut state[0..n], settings);
+fn open_on(kind: Kind, work: &mut [u8; 3333], settings: Settings) -> Answer {
+    if is_wrong(kind) {
+        let mut other = [0u8; 1];
+        return console::open(&mut other, settings);
     }
-    console::open(state, settings)
+    console::open(work, settings)
 }
 
-pub fn open(line: &[u8], c: Cursor, desk: Desk, state: &mut [u8; 3333]) {
+pub fn open(line: &[u8], c: Cursor, kind: Kind, path: &[u8], state: &mut [u8; 3333]) {
+    let asked = asked::settings(line, c);
+    if asked.given {
+        let settings = asked.settings;
+        let mut work = *state;
+        match open_on(kind, &mut work, settings) {
+            Answer::Done => done(kind, path, state, work),
+            Answer::Refused(n) => refused(n),
+        }
+    }
+}
+
+fn return_on(kind: Kind, work: &mut [u8; 3333]) -> Answer {
+    if is_wrong(kind) {
+        let mut other = [0u8; 1];
+        return console::return_box(&mut other);
+    }
+    console::return_box(work)
+}
+
+pub fn return_box(line: &[u8], c: Cursor, kind: Kind, path: &[u8], state: &mut [u8; 3333]) {
     if ends(line, c) {
-        let settings = desk.settings;
-        let answer = open_on(state, desk.length, settings);
-        answered(answer, b"opened\n");
+        let mut work = *state;
+        match return_on(kind, &mut work) {
+            Answer::Done => done(kind, path, state, work),
+            Answer::Refused(n) => refused(n),
+        }
     }
 }
 
-fn return_on(state: &mut [u8], n: usize) -> Answer {
-    if n < state.len() {
-        return console::return_box(&mut state[0..n]);
-    }
-    console::return_box(state)
-}
+// ---- `count`
 
-pub fn return_box(line: &[u8], c: Cursor, desk: Desk, state: &mut [u8; 3333]) {
-    if ends(line, c) {
-        let answer = return_on(state, desk.length);
-        answered(answer, b"returned\n");
-    }
-}
-
-fn count_on(state: &[u8], n: usize) -> Count {
-    if n < state.len() {
-        return console::count(&state[0..n]);
+fn count_on(kind: Kind, state: &[u8; 3333]) -> Count {
+    if is_wrong(kind) {
+        let other = [0u8; 1];
+        return console::count(&other);
     }
     console::count(state)
 }
 
-pub fn count(line: &[u8], c: Cursor, desk: Desk, state: &[u8; 3333]) {
+fn counted(n: u32) {
+    let mut out = [0u8; 1024];
+    let a = put_named(&mut out, 0, b"ok ", n as u64);
+    let b = put(&mut out, a, b"\n");
+    send(&out, b);
+}
+
+pub fn count(line: &[u8], c: Cursor, kind: Kind, state: &[u8; 3333]) {
     if ends(line, c) {
-        match count_on(state, desk.length) {
-            Count::ToFile(n) => {
-                named(b"", n as u64);
-                text(b" still to file\n");
-            }
+        match count_on(kind, state) {
+            Count::ToFile(n) => counted(n),
             Count::Refused(n) => refused(n),
         }
     }
 }
 
 // ---- `calculate D0 D1 ..`
-
-fn draw_of(numbers: [u32; 40]) -> [u8; 40] {
-    let mut draw = [0u8; 40];
-    let mut i = 0;
-    while i < 40 {
-        draw[i] = one_byte(numbers[i]);
-        i += 1;
-    }
-    draw
-}
 
 fn drawn(state: &mut [u8], draw: &[u8], k: usize) -> Calculation {
     if k < draw.len() {
@@ -95,25 +104,35 @@ fn drawn(state: &mut [u8], draw: &[u8], k: usize) -> Calculation {
     console::calculate(state, draw)
 }
 
-fn calculate_on(state: &mut [u8], n: usize, draw: &[u8; 40], k: usize) -> Calculation {
-    if n < state.len() {
-        return drawn(&mut state[0..n], draw, k);
+fn calculate_on(kind: Kind, work: &mut [u8; 3333], draw: &[u8; 40], k: usize) -> Calculation {
+    if is_wrong(kind) {
+        let mut other = [0u8; 1];
+        return drawn(&mut other, draw, k);
     }
-    drawn(state, draw, k)
+    drawn(work, draw, k)
 }
 
-pub fn calculate(line: &[u8], c: Cursor, desk: Desk, state: &mut [u8; 3333]) {
+fn calculated(kept: u32, outbid: u32) {
+    let mut out = [0u8; 1024];
+    let a = put_named(&mut out, 0, b"ok kept ", kept as u64);
+    let b = put_named(&mut out, a, b" outbid ", outbid as u64);
+    let c = put(&mut out, b, b"\n");
+    send(&out, c);
+}
+
+pub fn calculate(line: &[u8], c: Cursor, kind: Kind, path: &[u8], state: &mut [u8; 3333]) {
     let mut numbers = [0u32; 40];
-    let k = all_numbers(line, c, &mut numbers, 0, 40);
+    let k = asked::all_numbers(line, c, 40, &mut numbers);
     if 40 < k {
         return;
     }
     let draw = draw_of(numbers);
-    match calculate_on(state, desk.length, &draw, k) {
+    let mut work = *state;
+    match calculate_on(kind, &mut work, &draw, k) {
         Calculation::Done { kept, outbid } => {
-            named(b"kept ", kept as u64);
-            named(b", outbid ", outbid as u64);
-            text(b"\n");
+            if keep(kind, path, state, work) {
+                calculated(kept, outbid);
+            }
         }
         Calculation::Refused(n) => refused(n),
     }
@@ -121,91 +140,82 @@ pub fn calculate(line: &[u8], c: Cursor, desk: Desk, state: &mut [u8; 3333]) {
 
 // ---- `report B`
 
-fn report_on(state: &[u8], n: usize, b: u8) -> Reported {
-    if n < state.len() {
-        return console::report(&state[0..n], b);
+fn report_on(kind: Kind, state: &[u8; 3333], b: u8) -> Reported {
+    if is_wrong(kind) {
+        let other = [0u8; 1];
+        return console::report(&other, b);
     }
     console::report(state, b)
 }
 
-fn say_phase(phase: Phase) {
-    match phase {
-        Phase::Issued => text(b"issued"),
-        Phase::Open => text(b"open"),
-        Phase::Closed => text(b"closed"),
-        Phase::Stopped => text(b"stopped"),
+fn reported(state: &[u8; 3333], given: Reported) {
+    let report = given.report;
+    match report {
+        Report::Given { free, phase, range } => {
+            told::report(free, phase, range);
+            let records = given.records;
+            let prices = given.prices;
+            let a = state::load(state);
+            told::holdings(records, prices, a.terms.products as usize);
+        }
+        Report::Refused(n) => told::refused_report(n),
     }
 }
 
-pub fn report(line: &[u8], c: Cursor, desk: Desk, state: &[u8; 3333]) {
-    let mut n = [0u32; 40];
-    if all_numbers(line, c, &mut n, 1, 1) != 1 {
+pub fn report(line: &[u8], c: Cursor, kind: Kind, state: &[u8; 3333]) {
+    let Some::Number(b, next) = one_number(line, c) else {
         return;
-    }
-    let told = report_on(state, desk.length, one_byte(n[0]));
-    let report = told.report;
-    match report {
-        Report::Given { free, phase, range } => {
-            named(b"report to bidder ", wide(n[0]));
-            text(b": ");
-            say_phase(phase);
-            named(b", excess ", range.low as u64);
-            named(b"-", range.high as u64);
-            named(b", f ", free.0 as u64);
-            text(b"\n");
-            let records = told.records;
-            let prices = told.prices;
-            say::records(records, prices, desk.settings.products as usize);
-        }
-        Report::Refused(k) => refused(k),
+    };
+    if ends(line, next) {
+        reported(state, report_on(kind, state, one_byte(b)));
     }
 }
 
 // ---- `result`
 
-fn result_on(state: &[u8], n: usize) -> Awarded {
-    if n < state.len() {
-        return console::result(&state[0..n]);
+fn result_on(kind: Kind, state: &[u8; 3333]) -> Awarded {
+    if is_wrong(kind) {
+        let other = [0u8; 1];
+        return console::result(&other);
     }
     console::result(state)
 }
 
-pub fn result(line: &[u8], c: Cursor, desk: Desk, state: &[u8; 3333]) {
-    if ends(line, c) {
-        let given = result_on(state, desk.length);
-        let award = given.award;
-        match award {
-            Award::Given => {
-                text(b"result\n");
-                let products = desk.settings.products as usize;
-                let tranches = given.tranches;
-                let prices = given.prices;
-                say::awards(tranches, desk.settings.bidders as usize, products);
-                say::quotes(prices, products);
-            }
-            Award::Refused(n) => refused(n),
+fn awarded(state: &[u8; 3333], given: Awarded) {
+    let award = given.award;
+    match award {
+        Award::Given => {
+            say_line(b"ok\n");
+            let tranches = given.tranches;
+            let prices = given.prices;
+            let a = state::load(state);
+            let products = a.terms.products as usize;
+            told::final_prices(prices, products);
+            told::awards(tranches, a.terms.bidders as usize, products);
         }
+        Award::Refused(n) => refused(n),
     }
 }
 
-// ---- `poke AT VALUE`: one byte of the state, which is no call of the console
+pub fn result(line: &[u8], c: Cursor, kind: Kind, state: &[u8; 3333]) {
+    if ends(line, c) {
+        awarded(state, result_on(kind, state));
+    }
+}
 
-pub fn poke(line: &[u8], c: Cursor, state: &mut [u8; 3333]) {
-    let mut n = [0u32; 40];
-    if all_numbers(line, c, &mut n, 2, 2) != 2 {
-        return;
+// ---- `show`
+
+pub fn show(line: &[u8], c: Cursor, kind: Kind, state: &[u8; 3333]) {
+    if ends(line, c) {
+        let n = number_on(kind, state);
+        if n == 3 {
+            say_line(b"ok issued\n");
+            return;
+        }
+        if n != 0 {
+            refused(n);
+            return;
+        }
+        view::show(state::load(state));
     }
-    if 3332 < n[0] {
-        wrong(b"the bytes are numbered 0 to 3332", line.len());
-        return;
-    }
-    if 255 < n[1] {
-        wrong(b"a byte is at most 255", line.len());
-        return;
-    }
-    let at = n[0] as usize;
-    state[at] = one_byte(n[1]);
-    named(b"byte ", wide(n[0]));
-    named(b" is ", wide(n[1]));
-    text(b"\n");
 }

@@ -1,23 +1,25 @@
 // The commands that write, read and file cards.
-use calling::answered;
-use prepare::Desk;
-use prepare::all_bytes;
-use prepare::all_numbers;
-use prepare::one_byte;
-use prepare::two_bytes;
+use asked::Some;
+use asked::groups;
+use asked::lines_of;
+use asked::one_byte;
+use asked::one_number;
+use asked::two_bytes;
+use boxed::Kind;
+use boxed::is_wrong;
+use boxed::keep;
+use boxed::number_on;
 use rules::Answer;
 use rules::Card;
 use rules::CardRead;
 use rules::Line;
-use rules::Lot;
-use rules::Tranches;
-use say::named;
-use say::refused;
-use say::text;
-use say::wrong;
+use say::line as say_line;
+use say::put;
+use say::put_hex;
+use say::put_named;
+use say::send;
+use told::refused;
 use words::Cursor;
-use words::Take;
-use words::take_number;
 
 // How many bytes a card has: bidder and round take 17 bits, a product 36. A count that has no card gets none.
 fn card_length(products: usize) -> usize {
@@ -27,134 +29,22 @@ fn card_length(products: usize) -> usize {
     (17 + 36 * products + 7) / 8
 }
 
-// The fields of 8 products, four numbers each, from the third number on. Those that were not given are 0, as the array was made.
-fn lines_of(numbers: [u32; 40]) -> [Line; 8] {
-    let none = Line::none();
-    let mut all = [none; 8];
-    let mut p = 0;
-    while p < 8 {
-        let k = p * 4;
-        all[p] = Line {
-            tranches: Tranches(two_bytes(numbers[k + 2])),
-            withdrawn: Lot {
-                count: Tranches(two_bytes(numbers[k + 3])),
-                exit: numbers[k + 4],
-            },
-            priority: one_byte(numbers[k + 5]),
-        };
-        p += 1;
-    }
-    all
-}
-
-// ---- `write PRODUCTS BIDDER ROUND` and the fields
-
-fn write_part(
-    room: &mut [u8],
-    n: usize,
-    products: usize,
-    bidder: u8,
-    round: u16,
-    all: [Line; 8],
-) -> Answer {
-    if n < room.len() {
-        return console::write(&mut room[0..n], products, bidder, round, all);
-    }
-    console::write(room, products, bidder, round, all)
-}
-
-fn write_to(room: &mut [u8; 64], n: usize, products: usize, numbers: [u32; 40]) -> Answer {
-    let bidder = one_byte(numbers[0]);
-    let round = two_bytes(numbers[1]);
-    let all = lines_of(numbers);
-    write_part(room, n, products, bidder, round, all)
-}
-
-fn show_part(card: &[u8], n: usize) {
+// `ok HEX`
+fn say_card(card: &[u8], n: usize) {
     if n <= card.len() {
-        say::bytes(&card[0..n]);
+        let mut out = [0u8; 1024];
+        let a = put(&mut out, 0, b"ok ");
+        let b = put_hex(&mut out, a, &card[0..n]);
+        let c = put(&mut out, b, b"\n");
+        send(&out, c);
     }
 }
 
-fn show(card: &[u8; 64], n: usize) {
-    text(b"card");
-    show_part(card, n);
-    text(b"\n");
+fn show_card(card: &[u8; 39], n: usize) {
+    say_card(card, n);
 }
 
-fn room_for(products: usize, room: usize) -> usize {
-    if room == 0 {
-        return card_length(products);
-    }
-    room
-}
-
-fn write_bid(line: &[u8], c: Cursor, desk: Desk, products: usize) {
-    let mut numbers = [0u32; 40];
-    let k = all_numbers(line, c, &mut numbers, 2, 34);
-    if 40 < k {
-        return;
-    }
-    let mut room = [0u8; 64];
-    let n = room_for(products, desk.room);
-    match write_to(&mut room, n, products, numbers) {
-        Answer::Done => show(&room, n),
-        Answer::Refused(x) => refused(x),
-    }
-}
-
-pub fn write(line: &[u8], c: Cursor, desk: Desk) {
-    match take_number(line, c) {
-        Take::Number(products, next) => write_bid(line, next, desk, products as usize),
-        Take::TooLarge(at) => wrong(b"a number above 4294967295", at),
-        Take::NotANumber(at) => wrong(b"not a number", at),
-        Take::End => wrong(b"a number is missing", line.len()),
-    }
-}
-
-// ---- `read PRODUCTS B0 B1 ..`
-
-fn read_part(card: &[u8], n: usize, products: usize) -> CardRead {
-    if n < card.len() {
-        return console::read(&card[0..n], products);
-    }
-    console::read(card, products)
-}
-
-fn read_card(card: &[u8; 64], n: usize, products: usize) -> CardRead {
-    read_part(card, n, products)
-}
-
-fn read_bytes(line: &[u8], c: Cursor, products: usize) {
-    let mut bytes = [0u8; 64];
-    let n = all_bytes(line, c, &mut bytes);
-    if 64 < n {
-        return;
-    }
-    let got = read_card(&bytes, n, products);
-    let card = got.card;
-    match card {
-        Card::Bid { bidder, round } => {
-            named(b"bidder ", bidder as u64);
-            named(b", round ", round as u64);
-            let lines = got.lines;
-            say::lines(lines, products);
-            text(b"\n");
-        }
-        Card::Refused(x) => refused(x),
-    }
-}
-
-pub fn read(line: &[u8], c: Cursor) {
-    match take_number(line, c) {
-        Take::Number(products, next) => read_bytes(line, next, products as usize),
-        Take::TooLarge(at) => wrong(b"a number above 4294967295", at),
-        Take::NotANumber(at) => wrong(b"not a number", at),
-        Take::End => wrong(b"a number is missing", line.len()),
-    }
-}
-
-// ---- `card B0 B1 ..` and `bid BIDDER ROUND` with the fields of each product
+// ---- `file HEX`
 
 fn file_part(state: &mut [u8], card: &[u8], n: usize) -> Answer {
     if n < card.len() {
@@ -163,41 +53,204 @@ fn file_part(state: &mut [u8], card: &[u8], n: usize) -> Answer {
     console::file(state, card)
 }
 
-fn file_on(state: &mut [u8], length: usize, card: &[u8; 64], n: usize) -> Answer {
-    if length < state.len() {
-        return file_part(&mut state[0..length], card, n);
+fn file_on(kind: Kind, work: &mut [u8; 3333], card: &[u8; 1024], n: usize) -> Answer {
+    if is_wrong(kind) {
+        let mut other = [0u8; 1];
+        return file_part(&mut other, card, n);
     }
-    file_part(state, card, n)
+    file_part(work, card, n)
 }
 
-pub fn card(line: &[u8], c: Cursor, desk: Desk, state: &mut [u8; 3333]) {
-    let mut bytes = [0u8; 64];
-    let n = all_bytes(line, c, &mut bytes);
-    if 64 < n {
+pub fn file(line: &[u8], c: Cursor, kind: Kind, path: &[u8], state: &mut [u8; 3333]) {
+    let mut card = [0u8; 1024];
+    let n = asked::card(line, c, &mut card);
+    if 1024 < n {
         return;
     }
-    let answer = file_on(state, desk.length, &bytes, n);
-    answered(answer, b"filed\n");
-}
-
-pub fn bid(line: &[u8], c: Cursor, desk: Desk, state: &mut [u8; 3333]) {
-    let products = desk.settings.products as usize;
-    let wanted = 2 + 4 * products;
-    let mut numbers = [0u32; 40];
-    let k = all_numbers(line, c, &mut numbers, wanted, wanted);
-    if 40 < k {
-        return;
-    }
-    let mut room = [0u8; 64];
-    let n = card_length(products);
-    match write_to(&mut room, n, products, numbers) {
+    let mut work = *state;
+    match file_on(kind, &mut work, &card, n) {
         Answer::Done => {
-            let answer = file_on(state, desk.length, &room, n);
-            answered(answer, b"filed\n");
+            if keep(kind, path, state, work) {
+                say_line(b"ok\n");
+            }
         }
-        Answer::Refused(x) => {
-            text(b"not written, ");
-            refused(x);
+        Answer::Refused(x) => refused(x),
+    }
+}
+
+// ---- `write N B R T W X P ..`
+
+fn write_part(
+    room: &mut [u8],
+    n: usize,
+    products: usize,
+    bidder: u8,
+    round: u16,
+    lines: [Line; 8],
+) -> Answer {
+    if n < room.len() {
+        return console::write(&mut room[0..n], products, bidder, round, lines);
+    }
+    console::write(room, products, bidder, round, lines)
+}
+
+fn write_to(
+    room: &mut [u8; 39],
+    products: usize,
+    bidder: u8,
+    round: u16,
+    lines: [Line; 8],
+) -> Answer {
+    write_part(room, card_length(products), products, bidder, round, lines)
+}
+
+fn written(products: usize, bidder: u8, round: u16, lines: [Line; 8]) {
+    let mut room = [0u8; 39];
+    match write_to(&mut room, products, bidder, round, lines) {
+        Answer::Done => show_card(&room, card_length(products)),
+        Answer::Refused(x) => refused(x),
+    }
+}
+
+pub fn write(line: &[u8], c: Cursor) {
+    let Some::Number(products, at_bidder) = one_number(line, c) else {
+        return;
+    };
+    let Some::Number(bidder, at_round) = one_number(line, at_bidder) else {
+        return;
+    };
+    let Some::Number(round, at_lines) = one_number(line, at_round) else {
+        return;
+    };
+    let mut numbers = [0u32; 40];
+    if 8 < groups(line, at_lines, &mut numbers) {
+        return;
+    }
+    let lines = lines_of(numbers);
+    written(products as usize, one_byte(bidder), two_bytes(round), lines);
+}
+
+// ---- `read N HEX`
+
+fn read_part(card: &[u8], n: usize, products: usize) -> CardRead {
+    if n < card.len() {
+        return console::read(&card[0..n], products);
+    }
+    console::read(card, products)
+}
+
+fn read_card(card: &[u8; 1024], n: usize, products: usize) -> CardRead {
+    read_part(card, n, products)
+}
+
+pub fn read(line: &[u8], c: Cursor) {
+    let Some::Number(products, next) = one_number(line, c) else {
+        return;
+    };
+    let mut bytes = [0u8; 1024];
+    let n = asked::card(line, next, &mut bytes);
+    if 1024 < n {
+        return;
+    }
+    let got = read_card(&bytes, n, products as usize);
+    let card = got.card;
+    match card {
+        Card::Bid { bidder, round } => {
+            let lines = got.lines;
+            told::bid(bidder, round, lines, products as usize);
         }
+        Card::Refused(x) => refused(x),
+    }
+}
+
+// ---- `bid B T W X P ..`
+
+fn file_written(work: &mut [u8; 3333], card: &[u8; 39], n: usize) -> Answer {
+    file_part(work, card, n)
+}
+
+fn filed(kind: Kind, path: &[u8], state: &mut [u8; 3333], card: &[u8; 39], n: usize) {
+    let mut work = *state;
+    match file_written(&mut work, card, n) {
+        Answer::Done => {
+            if keep(kind, path, state, work) {
+                show_card(card, n);
+            }
+        }
+        Answer::Refused(x) => refused(x),
+    }
+}
+
+fn groups_length(products: usize) -> usize {
+    if products <= 8 {
+        return products * 4;
+    }
+    32
+}
+
+// The number of products that a bid of the present round must have; 0 where there is none to be filed, and its number is said.
+fn products_of(kind: Kind, state: &[u8; 3333]) -> usize {
+    let n = number_on(kind, state);
+    if n != 0 {
+        refused(n);
+        return 0;
+    }
+    let a = state::load(state);
+    if a.phase != 1 {
+        refused(3);
+        return 0;
+    }
+    a.terms.products as usize
+}
+
+fn wrong_part(text: &[u8], n: usize, at: usize) {
+    if n <= text.len() {
+        say::wrong(&text[0..n], at);
+    }
+}
+
+fn wrong_gathered(text: &[u8; 1024], n: usize, at: usize) {
+    wrong_part(text, n, at);
+}
+
+// The numbers are those of more or fewer products than the auction has, up to a place.
+fn other_count(products: usize, at: usize) {
+    let mut text = [0u8; 1024];
+    let a = put_named(
+        &mut text,
+        0,
+        b"a bid in this auction has four numbers for each of ",
+        products as u64,
+    );
+    let b = put(&mut text, a, b" products");
+    wrong_gathered(&text, b, at);
+}
+
+pub fn bid(line: &[u8], c: Cursor, kind: Kind, path: &[u8], state: &mut [u8; 3333]) {
+    let Some::Number(bidder, next) = one_number(line, c) else {
+        return;
+    };
+    let mut numbers = [0u32; 40];
+    let k = groups(line, next, &mut numbers);
+    if 8 < k {
+        return;
+    }
+    let products = products_of(kind, state);
+    if products == 0 {
+        return;
+    }
+    if k != products {
+        other_count(
+            products,
+            asked::place_after(line, next, groups_length(products)),
+        );
+        return;
+    }
+    let a = state::load(state);
+    let lines = lines_of(numbers);
+    let mut room = [0u8; 39];
+    match write_to(&mut room, products, one_byte(bidder), a.round, lines) {
+        Answer::Done => filed(kind, path, state, &room, card_length(products)),
+        Answer::Refused(x) => refused(x),
     }
 }

@@ -1,38 +1,82 @@
-// What a desk writes: plain words and numbers, each as it comes.
-ghost use Prim.Native.Nat.{_≤_};
+// Answers: a line is gathered in a lent array and written in one call. What does not fit is left out whole, so nothing that
+// is called from outside has a `requires`.
+ghost use mathlib.Core.Path.{_≡_};
+ghost use Prim.Native.Nat.{_+_, _≤_};
+ghost use lib.ListN.{length};
+ghost use lib.Seq.{paste};
+ghost use Rattle.say.specs.Put.{putAt};
 use libc::STDOUT_FILENO;
-use rules::Line;
-use rules::Price;
-use rules::Quote;
-use rules::Record;
-use rules::Tranches;
 
-pub fn text(bytes: &[u8]) {
-    io::write_all(STDOUT_FILENO, bytes);
+// Copies all of src into dst from index at on, and gives the index after it.
+fn copy_in(src: &[u8], dst: &mut [u8], at: usize) -> usize
+    requires { ⌜ at + length (now src) ≤ length (now dst) ⌝ }
+    ensures { λ r. ⌜ (r ≡ at + length (now (src .entry))) × (now (dst .exit) ≡ paste (now (dst .entry)) at (now (src .entry)) (length (now (src .entry)))) ⌝ }
+{
+    let mut j = 0;
+    while j < src.len() {
+        dst[at + j] = src[j];
+        j += 1;
+    }
+    at + j
 }
 
-pub fn number(n: u64) {
-    io::print_decimal(STDOUT_FILENO, n);
+// Puts a text at a place, and gives the place after it; where there is no room, the place.
+pub fn put(out: &mut [u8; 1024], at: usize, w: &[u8]) -> usize
+    ensures { λ r. ⌜ (r ≡ putAt (now (out .entry)) at (now (w .entry)) .next) × (now (out .exit) ≡ putAt (now (out .entry)) at (now (w .entry)) .bytes) ⌝ }
+{
+    if 1024 < at {
+        return at;
+    }
+    if 1024 - at < w.len() {
+        return at;
+    }
+    copy_in(w, out, at)
 }
 
-// Text, and a number after it.
-pub fn named(what: &[u8], n: u64) {
-    text(what);
-    number(n);
+// A number in decimal.
+pub fn put_number(out: &mut [u8; 1024], at: usize, n: u64) -> usize {
+    let mut text = [0u8; 20];
+    let k = io::decimal(n, &mut text);
+    put(out, at, &text[..k])
 }
 
-// ` B`, in two hexadecimal digits.
-fn byte(b: u8) {
-    text(b" ");
-    io::print_hex(STDOUT_FILENO, b as u64, 2);
+// A text, and a number after it.
+pub fn put_named(out: &mut [u8; 1024], at: usize, what: &[u8], n: u64) -> usize {
+    let a = put(out, at, what);
+    put_number(out, a, n)
 }
 
-pub fn bytes(all: &[u8]) {
+// A byte as two hexadecimal digits in lower case.
+fn put_byte(out: &mut [u8; 1024], at: usize, b: u8) -> usize {
+    let mut text = [0u8; 16];
+    let k = io::hex(b as u64, 2, &mut text);
+    put(out, at, &text[..k])
+}
+
+pub fn put_hex(out: &mut [u8; 1024], at: usize, bytes: &[u8]) -> usize {
+    let mut to = at;
     let mut i = 0;
-    while i < all.len() {
-        byte(all[i]);
+    while i < bytes.len() {
+        to = put_byte(out, to, bytes[i]);
         i += 1;
     }
+    to
+}
+
+fn send_part(out: &[u8], n: usize) {
+    if n <= out.len() {
+        io::write_all(STDOUT_FILENO, &out[..n]);
+    }
+}
+
+// Writes the first n bytes that were gathered. Nobody is left to tell where that fails.
+pub fn send(out: &[u8; 1024], n: usize) {
+    send_part(out, n);
+}
+
+// Writes a fixed text, which has its line end.
+pub fn line(w: &[u8]) {
+    io::write_all(STDOUT_FILENO, w);
 }
 
 // Columns are counted from 1. No line is as long as the last of them.
@@ -45,124 +89,10 @@ fn column(at: usize) -> u64 {
 
 // A line that is no command: what is wrong with it, and in which column.
 pub fn wrong(what: &[u8], at: usize) {
-    text(b"not understood: ");
-    text(what);
-    named(b", column ", column(at));
-    text(b"\n");
-}
-
-pub fn refused(n: u8) {
-    named(b"refused ", n as u64);
-    text(b"\n");
-}
-
-pub fn unit(n: u8) {
-    if n == 0 {
-        text(b"thousandths of a cent/kWh");
-        return;
-    }
-    text(b"cents/MW-day");
-}
-
-fn price(p: Price) {
-    number(p.amount() as u64);
-    text(b" ");
-    unit(p.unit());
-}
-
-// The bid of one product, as it stands on a card.
-fn line(l: Line) {
-    text(b", ");
-    number(l.tranches.0 as u64);
-    named(b" ", l.withdrawn.count.0 as u64);
-    named(b" ", l.withdrawn.exit as u64);
-    named(b" ", l.priority as u64);
-}
-
-pub fn lines(all: [Line; 8], n: usize) {
-    let mut i = 0;
-    while i < 8 {
-        if n <= i {
-            return;
-        }
-        line(all[i]);
-        i += 1;
-    }
-}
-
-fn quote(p: usize, q: Quote) {
-    named(b"  product ", p as u64);
-    text(b": ");
-    let x = q.price;
-    price(x);
-}
-
-fn held(r: Record) {
-    named(b", g ", r.going.0 as u64);
-    named(b", d ", r.denied.0 as u64);
-    named(b", r ", r.retained.count.0 as u64);
-    named(b", exit ", r.retained.exit as u64);
-}
-
-// A bidder's own record of each product, with its going price.
-pub fn records(all: [Record; 8], prices: [Quote; 8], n: usize) {
-    let mut p = 0;
-    while p < 8 {
-        if n <= p {
-            return;
-        }
-        quote(p, prices[p]);
-        held(all[p]);
-        text(b"\n");
-        p += 1;
-    }
-}
-
-// The price of each product.
-pub fn quotes(prices: [Quote; 8], n: usize) {
-    let mut p = 0;
-    while p < 8 {
-        if n <= p {
-            return;
-        }
-        quote(p, prices[p]);
-        text(b"\n");
-        p += 1;
-    }
-}
-
-fn award(all: [Tranches; 256], k: usize) {
-    if k < 256 {
-        let x = all[k];
-        named(b" ", x.0 as u64);
-    }
-}
-
-// What the bidder whose row starts at k is awarded of each product.
-fn awards_of(all: [Tranches; 256], k: usize, products: usize)
-    requires { ⌜ k ≤ 256 ⌝ }
-{
-    let mut p = 0;
-    while p < 8 {
-        if products <= p {
-            return;
-        }
-        award(all, k + p);
-        p += 1;
-    }
-}
-
-// What each bidder is awarded.
-pub fn awards(all: [Tranches; 256], bidders: usize, products: usize) {
-    let mut b = 0;
-    while b < 32 {
-        if bidders <= b {
-            return;
-        }
-        named(b"  bidder ", b as u64);
-        text(b":");
-        awards_of(all, b * 8, products);
-        text(b"\n");
-        b += 1;
-    }
+    let mut out = [0u8; 1024];
+    let a = put(&mut out, 0, b"error ");
+    let b = put(&mut out, a, what);
+    let c = put_named(&mut out, b, b", column ", column(at));
+    let d = put(&mut out, c, b"\n");
+    send(&out, d);
 }

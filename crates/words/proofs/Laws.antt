@@ -1,35 +1,40 @@
--- The end of a run, one byte more; a word, and where there is none. Assumes nothing.
-use Prim.Native.Nat.{ℕ, suc, _+_, _-_, _*_, _<_, _≤_}
-use mathlib.Core.Path.{_≡_}
-use mathlib.Core.Bool.{Bool, true, false}
-use mathlib.Core.List.{List}
+-- The end of a run, one byte more; a word, and where there is none; a byte of digits. Assumes nothing.
+use Prim.Native.Nat.{ℕ, zero, suc, _+_, _-_, _*_, _<_, _≤_}
+use mathlib.Core.Path.{_≡_, refl, sym}
+use mathlib.Core.Bool.{true, false}
+use mathlib.Core.List.{List, _++_, append-assoc}
 use native.Mathlib.Omega.{arith}
-use lib.ListN.{length, getD, take, drop}
-use borrow.Author.Tests.{eq-eqb, ne-eqb, le-leb, lt-leb}
+use native.Mathlib.Numerals.{add-one}
+use lib.ListN.{length, getD, drop, set, length-append}
+use lib.Seq.{drop-cons, set-at}
+use borrow.Author.Tests.{eq-eqb, ne-eqb, lt-ltb, le-ltb}
 use Rattle.words.specs.declared.Span.{Span}
+use Rattle.words.specs.declared.Run.{Run}
 use Rattle.words.specs.declared.number.Take.the-variants.{End}
-use Rattle.words.specs.declared.byte.Digits.the-variants as digits
-use Rattle.words.specs.declared.byte.Pair.the-variants as pair
-use Rattle.words.specs.Words.{pick, goesOn, runEnd, bytesIn}
+use Rattle.words.specs.Nibble.{nibbleOf}
+use Rattle.words.specs.Words.{goesOn, runEnd, bytesIn}
 use Rattle.words.specs.Number.{readWord, taken, takeIn}
-use Rattle.words.specs.Byte.{nibbleOf, byteWord, paired, pairIn}
+use Rattle.words.specs.declared.Run.the-variants.{Digits}
+use Rattle.words.specs.declared.hex.Hex.{Hex}
+use Rattle.words.specs.declared.hex.Hex.the-variants as hex
+use Rattle.words.specs.Hex.{digitOf, pairOf, hexUpTo, hexWord, hexIn}
 
 -- a byte that belongs to the run
-pub run-more : (s : List ℕ) (k : Bool) (i n : ℕ) → i < n → goesOn (getD s i 0) k ≡ true → runEnd s k i (n - i) ≡ runEnd s k (i + 1) (n - (i + 1))
+pub run-more : (s : List ℕ) (k : Run) (i n : ℕ) → i < n → goesOn (getD s i 0) k ≡ true → runEnd s k i (n - i) ≡ runEnd s k (i + 1) (n - (i + 1))
 unfolding runEnd
 run-more s k i n h t =
     let e : n - i ≡ suc (n - (i + 1)) = omega arith in
     rw (e, t)
 
 -- a byte that does not
-pub run-stop : (s : List ℕ) (k : Bool) (i n : ℕ) → i < n → goesOn (getD s i 0) k ≡ false → runEnd s k i (n - i) ≡ i
+pub run-stop : (s : List ℕ) (k : Run) (i n : ℕ) → i < n → goesOn (getD s i 0) k ≡ false → runEnd s k i (n - i) ≡ i
 unfolding runEnd
 run-stop s k i n h t =
     let e : n - i ≡ suc (n - (i + 1)) = omega arith in
     rw (e, t)
 
 -- no byte left
-pub run-none : (s : List ℕ) (k : Bool) (i n : ℕ) → n ≤ i → runEnd s k i (n - i) ≡ i
+pub run-none : (s : List ℕ) (k : Run) (i n : ℕ) → n ≤ i → runEnd s k i (n - i) ≡ i
 unfolding runEnd
 run-none s k i n h =
     let e : n - i ≡ 0 = omega arith in
@@ -39,25 +44,43 @@ run-none s k i n h =
 pub take-none : (s : List ℕ) (p : Span) → p .from ≡ p .to → takeIn s p ≡ End
 take-none s p h = rw (eq-eqb _ _ h)
 
-pub take-word : (s : List ℕ) (p : Span) → (p .from ≡ p .to → ⊥) → takeIn s p ≡ taken (p .from) (p .to) (readWord (take (p .to - p .from) (drop (p .from) s)))
+pub take-word : (s : List ℕ) (p : Span) → (p .from ≡ p .to → ⊥) → takeIn s p ≡ taken (p .from) (p .to) (readWord (bytesIn s p))
 take-word s p h = rw (ne-eqb _ _ h)
 
--- a byte likewise
-pub pair-none : (s : List ℕ) (p : Span) → p .from ≡ p .to → pairIn s p ≡ pair.End
-pair-none s p h = rw (eq-eqb _ _ h)
+-- a hexadecimal digit, and a byte that is none
+pub digit-small : (b n : ℕ) → n ≡ nibbleOf b → n < 16 → n ≡ digitOf b
+unfolding digitOf
+digit-small b n e h = rw (← e, lt-ltb n 16 h)
 
-pub pair-word : (s : List ℕ) (p : Span) → (p .from ≡ p .to → ⊥) → pairIn s p ≡ paired (p .from) (p .to) (byteWord (bytesIn s p))
-pair-word s p h = rw (ne-eqb _ _ h)
+pub digit-none : (b n : ℕ) → n ≡ nibbleOf b → 16 ≤ n → 0 ≡ digitOf b
+unfolding digitOf
+digit-none b n e h = rw (← e, le-ltb n 16 h)
 
--- a word that has not two bytes, whose first is no digit, whose second is none, and one of two digits
-pub byte-long : (w : List ℕ) → (length w ≡ 2 → ⊥) → digits.Other ≡ byteWord w
-byte-long w h = rw (ne-eqb _ _ h)
+pub hex-length : (w : List ℕ) (n : ℕ) → length (hexUpTo w n) ≡ n
+unfolding hexUpTo
+hex-length w zero = refl
+hex-length w (suc n) = rw (length-append, hex-length w n) (omega arith)
 
-pub byte-first : (w : List ℕ) (a : ℕ) → length w ≡ 2 → a ≡ nibbleOf (getD w 0 0) → 16 ≤ a → digits.Other ≡ byteWord w
-byte-first w a n e h = rw (eq-eqb _ _ n, ← e, le-leb _ _ h)
+-- a byte stored after the first i
+pub hex-more : (w out : List ℕ) (i : ℕ) → i < length out
+    → set (hexUpTo w i ++ drop i out) i (pairOf (getD w (i * 2) 0) (getD w (i * 2 + 1) 0)) ≡ hexUpTo w (i + 1) ++ drop (i + 1) out
+unfolding hexUpTo
+hex-more w out i h = rw (add-one i, drop-cons out i 0 h, set-at (hexUpTo w i) _ _ _ i (hex-length w i)) (sym (append-assoc (hexUpTo w i) _ _))
 
-pub byte-second : (w : List ℕ) (a b : ℕ) → length w ≡ 2 → a ≡ nibbleOf (getD w 0 0) → b ≡ nibbleOf (getD w 1 0) → a < 16 → 16 ≤ b → digits.Other ≡ byteWord w
-byte-second w a b n e f h k = rw (eq-eqb _ _ n, ← e, ← f, lt-leb _ _ h, le-leb _ _ k)
+-- bytes where there is no word, a word with a byte that is no digit, and a word of digits
+pub hex-none : (s out : List ℕ) (p q : Span) → p ≡ q → p .from ≡ p .to
+    → (hex.End ≡ hexIn s q out .answer) × (out ≡ hexIn s q out .bytes)
+hex-none s out p q e h = rw (← e, eq-eqb _ _ h) (refl, refl)
 
-pub byte-whole : (w : List ℕ) (a b : ℕ) → length w ≡ 2 → a ≡ nibbleOf (getD w 0 0) → b ≡ nibbleOf (getD w 1 0) → a < 16 → b < 16 → digits.Byte (a * 16 + b) ≡ byteWord w
-byte-whole w a b n e f h k = rw (eq-eqb _ _ n, ← e, ← f, lt-leb _ _ h, lt-leb _ _ k)
+pub hex-strange : (s out : List ℕ) (p q : Span) (stop : ℕ) → p ≡ q → (p .from ≡ p .to → ⊥)
+    → stop ≡ runEnd s Digits (p .from) (length s - p .from)
+    → stop < p .to
+    → (hex.Strange stop ≡ hexIn s q out .answer) × (out ≡ hexIn s q out .bytes)
+hex-strange s out p q stop e h d l = rw (← e, ne-eqb _ _ h, ← d, lt-ltb _ _ l) (refl, refl)
+
+pub hex-digits : (s out o : List ℕ) (p q : Span) (stop : ℕ) (r : Hex) → p ≡ q → (p .from ≡ p .to → ⊥)
+    → stop ≡ runEnd s Digits (p .from) (length s - p .from)
+    → p .to ≤ stop
+    → (r ≡ hexWord (bytesIn s p) (p .from) (p .to) out .answer) × (o ≡ hexWord (bytesIn s p) (p .from) (p .to) out .bytes)
+    → (r ≡ hexIn s q out .answer) × (o ≡ hexIn s q out .bytes)
+hex-digits s out o p q stop r e h d l k = rw (← e, ne-eqb _ _ h, ← d, le-ltb _ _ l) k

@@ -1,4 +1,4 @@
+pub mod Nibble
 pub mod Words
 pub mod Number
-pub mod Byte
-pub mod Cases
+pub mod Hex

@@ -1,10 +1,10 @@
 // Words of a line. A byte up to 32 is a space, any other byte is part of a word.
-mod byte;
+mod hex;
 mod input;
 mod number;
 
-pub use byte::Pair;
-pub use byte::take_byte;
+pub use hex::Hex;
+pub use hex::take_hex;
 pub use input::Input;
 pub use input::keep_rest;
 pub use input::next_end;
@@ -26,21 +26,32 @@ pub struct Span {
     pub to: usize,
 }
 
-// Whether a byte belongs to a run of spaces, or to a run of other bytes.
-pub fn goes_on(b: u8, spaces: bool) -> bool
-    ensures { λ r. ⌜ r ≡ goesOn b spaces ⌝ }
+// What a run is of.
+pub enum Run {
+    Spaces,
+    Letters,
+    Digits,
+}
+
+// Whether a byte belongs to a run. Digits are hexadecimal.
+pub fn goes_on(b: u8, run: Run) -> bool
+    ensures { λ r. ⌜ r ≡ goesOn b run ⌝ }
 {
-    if spaces { b <= 32 } else { 32 < b }
+    match run {
+        Run::Spaces => b <= 32,
+        Run::Letters => 32 < b,
+        Run::Digits => hex::nibble(b) < 16,
+    }
 }
 
 // The first place from `at` on at which the run stops, or the line's length.
-pub fn run_end(s: &[u8], spaces: bool, at: usize) -> usize
+pub fn run_end(s: &[u8], run: Run, at: usize) -> usize
     requires { ⌜ at ≤ length (now s) ⌝ }
-    ensures { λ r. ⌜ (r ≡ runEnd (now (s .entry)) spaces at (length (now (s .entry)) - at)) × ((at ≤ r) × (r ≤ length (now (s .entry)))) ⌝ }
+    ensures { λ r. ⌜ (r ≡ runEnd (now (s .entry)) run at (length (now (s .entry)) - at)) × ((at ≤ r) × (r ≤ length (now (s .entry)))) ⌝ }
 {
     let mut i = at;
     while i < s.len() {
-        if goes_on(s[i], spaces) {
+        if goes_on(s[i], run) {
             i += 1;
         } else {
             return i;
@@ -60,7 +71,7 @@ pub fn word(s: &[u8], c: Cursor) -> Span
             to: s.len(),
         };
     }
-    let a = run_end(s, true, at);
-    let e = run_end(s, false, a);
+    let a = run_end(s, Run::Spaces, at);
+    let e = run_end(s, Run::Letters, a);
     Span { from: a, to: e }
 }

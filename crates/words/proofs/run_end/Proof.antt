@@ -9,10 +9,10 @@ use Rattle.words.proofs.run_end.Statement.{statement}
 use Rattle.words.proofs.run_end.Tie as tie
 
 abbrev Inv-loop : tie.InvT-loop
-Inv-loop s spaces at i₀ i = ((at ≤ i) × (i ≤ length s)) × (runEnd s spaces i (length s - i) ≡ runEnd s spaces at (length s - at))
+Inv-loop s run at i₀ i = ((at ≤ i) × (i ≤ length s)) × (runEnd s run i (length s - i) ≡ runEnd s run at (length s - at))
 
 abbrev μ-loop : tie.MeasureT-loop
-μ-loop s spaces at i₀ i = length s - i
+μ-loop s run at i₀ i = length s - i
 
 loop-holds : tie.Need-loop-holds Inv-loop μ-loop
 loop-holds c = search needs
@@ -33,19 +33,19 @@ loop-again : tie.Need-loop-again Inv-loop μ-loop
 loop-again c =
     let l = c .before .before .before .before in
     let a = l .before .before .args in
-    (search needs, sym (run-more (a .s .now) (a .spaces) (l .loop .i) (length (a .s .now)) (omega arith) (sym (c .before .goes-on .ensures) ∙ c .if1 .taken)) ∙ l .loop .inv .1)
+    (search needs, sym (run-more (a .s .now) (a .run) (l .loop .i) (length (a .s .now)) (omega arith) (sym (c .before .goes-on .ensures) ∙ c .if1 .taken)) ∙ l .loop .inv .1)
 
 returns : tie.Need-returns Inv-loop μ-loop
 returns c =
     let l = c .before .before .before .before in
     let a = l .before .before .args in
-    (sym (run-stop (a .s .now) (a .spaces) (l .loop .i) (length (a .s .now)) (omega arith) (sym (c .before .goes-on .ensures) ∙ c .if1 .left)) ∙ l .loop .inv .1, search needs)
+    (sym (run-stop (a .s .now) (a .run) (l .loop .i) (length (a .s .now)) (omega arith) (sym (c .before .goes-on .ensures) ∙ c .if1 .left)) ∙ l .loop .inv .1, search needs)
 
 returns-2 : tie.Need-returns-2 Inv-loop μ-loop
 returns-2 c =
     let l = c .before in
     let a = l .before .before .args in
-    (sym (run-none (a .s .now) (a .spaces) (l .loop .i) (length (a .s .now)) (omega arith)) ∙ l .loop .inv .1, search needs)
+    (sym (run-none (a .s .now) (a .run) (l .loop .i) (length (a .s .now)) (omega arith)) ∙ l .loop .inv .1, search needs)
 
 pub run-end-spec : {M : Type 1} → statement M
 run-end-spec =

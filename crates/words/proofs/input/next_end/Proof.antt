@@ -1,4 +1,3 @@
-use lib.ListN.{length}
 use Prim.Native.Nat.{_≤_, _-_}
 use borrow.Author.Needs.{needs}
 use Rattle.words.proofs.input.next_end.Statement.{statement}

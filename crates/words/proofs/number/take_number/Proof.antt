@@ -1,6 +1,6 @@
 use Rattle.words.proofs.Laws.{take-none, take-word}
 use Rattle.words.specs.Number.{takeIn, taken}
-use mathlib.Core.Path.{_≡_, sym, ap, _∙_}
+use mathlib.Core.Path.{sym, ap, _∙_}
 use borrow.Author.Needs.{needs}
 use Rattle.words.proofs.number.take_number.Statement.{statement}
 use Rattle.words.proofs.number.take_number.Tie as tie

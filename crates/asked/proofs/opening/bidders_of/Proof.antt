@@ -1,0 +1,60 @@
+use Rattle.asked.specs.Asked.{bidderAsked}
+use Rattle.rules.proofs.Fill.{Filled, none-filled, one-more, all-filled}
+use native.Mathlib.Omega.{arith}
+use Prim.Native.Nat.{_-_}
+use borrow.Author.Needs.{needs}
+use Rattle.asked.proofs.opening.bidders_of.Statement.{statement}
+use Rattle.asked.proofs.opening.bidders_of.Tie as tie
+
+abbrev Inv-loop : tie.InvT-loop
+Inv-loop numbers list₀ i₀ list i = Filled (bidderAsked numbers) 32 i list
+
+abbrev μ-loop : tie.MeasureT-loop
+μ-loop numbers list₀ i₀ list i = 32 - i
+
+loop-holds : tie.Need-loop-holds Inv-loop μ-loop
+loop-holds c = none-filled _ (search needs)
+
+mul-two-bytes : tie.Need-mul-two-bytes Inv-loop μ-loop
+mul-two-bytes c = search needs
+
+array-read-two-bytes : tie.Need-array-read-two-bytes Inv-loop μ-loop
+array-read-two-bytes c = search needs
+
+two-bytes-requires : tie.Need-two-bytes-requires Inv-loop μ-loop
+two-bytes-requires c κs = search needs
+
+mul-list : tie.Need-mul-list Inv-loop μ-loop
+mul-list c = search needs
+
+array-set-from-list : tie.Need-array-set-from-list Inv-loop μ-loop
+array-set-from-list c = search needs
+
+add-i : tie.Need-add-i Inv-loop μ-loop
+add-i c = search needs
+
+loop-less : tie.Need-loop-less Inv-loop μ-loop
+loop-less c = search needs
+
+loop-again : tie.Need-loop-again Inv-loop μ-loop
+loop-again c = one-more _ (c .before .before .loop .inv) (omega arith) (rw (c .two-bytes .ensures))
+
+returns : tie.Need-returns Inv-loop μ-loop
+returns c = all-filled (c .before .loop .inv) (omega arith)
+
+pub bidders-of-spec : {M : Type 1} → statement M
+bidders-of-spec =
+    tie.close
+    (tie.spec
+    Inv-loop
+    μ-loop
+    loop-holds
+    mul-two-bytes
+    array-read-two-bytes
+    two-bytes-requires
+    mul-list
+    array-set-from-list
+    add-i
+    loop-less
+    loop-again
+    returns)

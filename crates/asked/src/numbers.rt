@@ -1,0 +1,162 @@
+// Numbers of a command.
+ghost use mathlib.Core.Path.{_≡_};
+ghost use Rattle.rules.specs.Count.{listOf};
+ghost use Prim.Native.Nat.{_≤_};
+ghost use Rattle.asked.specs.Asked.{byteOf, pairOf, drawnAt};
+ghost use Rattle.asked.specs.Typed.{limitOf, typedAt};
+use say::wrong;
+use words::Cursor;
+use words::Take;
+use words::take_number;
+use words::word;
+
+// How many numbers stand one after the other, and the place after them; or where one stands that is too large.
+pub enum List {
+    Found(usize, Cursor),
+    TooLarge(usize),
+}
+
+// As many as the array has places for.
+fn limit(most: usize) -> usize
+    ensures { λ r. ⌜ (r ≡ limitOf most) × (r ≤ 40) ⌝ }
+{
+    if most < 40 {
+        return most;
+    }
+    40
+}
+
+// Numbers up to the first word that is none, `most` of them at most.
+pub fn take_numbers(line: &[u8], c: Cursor, most: usize, out: &mut [u32; 40]) -> List
+    ensures { λ r. ⌜ (r ≡ typedAt (now (line .entry)) c most (now (out .entry)) .found) × (now (out .exit) ≡ typedAt (now (line .entry)) c most (now (out .entry)) .numbers) ⌝ }
+{
+    let top = limit(most);
+    let mut at = c;
+    let mut n = 0;
+    while n < top {
+        match take_number(line, at) {
+            Take::Number(v, next) => {
+                out[n] = v;
+                at = next;
+                n += 1;
+            }
+            Take::TooLarge(p) => return List::TooLarge(p),
+            Take::NotANumber(p) => return List::Found(n, Cursor { at: p }),
+            Take::End => return List::Found(n, at),
+        }
+    }
+    List::Found(n, at)
+}
+
+pub fn too_large(at: usize) {
+    wrong(b"a number above 4294967295", at);
+}
+
+// A number, and the place after it; or that what is wrong was said.
+pub enum Some {
+    Number(u32, Cursor),
+    Said,
+}
+
+pub fn one_number(line: &[u8], c: Cursor) -> Some {
+    match take_number(line, c) {
+        Take::Number(n, next) => Some::Number(n, next),
+        Take::TooLarge(p) => {
+            too_large(p);
+            Some::Said
+        }
+        Take::NotANumber(p) => {
+            wrong(b"not a number", p);
+            Some::Said
+        }
+        Take::End => {
+            wrong(b"a number is missing", line.len());
+            Some::Said
+        }
+    }
+}
+
+// Whether nothing is left of a line; what is left is said to be too much.
+pub fn ends(line: &[u8], c: Cursor) -> bool {
+    let w = word(line, c);
+    let a = w.from;
+    let e = w.to;
+    if a == e {
+        return true;
+    }
+    wrong(b"nothing more belongs here", a);
+    false
+}
+
+// n numbers were found and `most` may stand there: where a word is left, it is no number or too much.
+fn settled(line: &[u8], next: Cursor, n: usize, most: usize) -> usize {
+    if most <= n {
+        if ends(line, next) {
+            return n;
+        }
+        return 41;
+    }
+    let w = word(line, next);
+    let a = w.from;
+    let e = w.to;
+    if a == e {
+        return n;
+    }
+    wrong(b"not a number", a);
+    41
+}
+
+// The numbers up to the end of a line, `most` of them at most: how many there are, or 41 where something is wrong and was said.
+pub fn all_numbers(line: &[u8], c: Cursor, most: usize, out: &mut [u32; 40]) -> usize
+    ensures { λ _. ⌜ now (out .exit) ≡ typedAt (now (line .entry)) c most (now (out .entry)) .numbers ⌝ }
+{
+    match take_numbers(line, c, most, out) {
+        List::Found(n, next) => settled(line, next, n, most),
+        List::TooLarge(p) => {
+            too_large(p);
+            41
+        }
+    }
+}
+
+// Where the word after the first `most` numbers stands, or should stand.
+pub fn place_after(line: &[u8], c: Cursor, most: usize) -> usize {
+    let mut out = [0u32; 40];
+    match take_numbers(line, c, most, &mut out) {
+        List::Found(_, next) => word(line, next).from,
+        List::TooLarge(p) => p,
+    }
+}
+
+// A number in the bits of a setting, a card's field or a draw. One that they do not hold becomes the largest that they hold,
+// which is too large for the console too.
+pub fn one_byte(n: u32) -> u8
+    ensures { λ r. ⌜ r ≡ byteOf n ⌝ }
+{
+    if n < 256 {
+        return n as u8;
+    }
+    255
+}
+
+pub fn two_bytes(n: u32) -> u16
+    ensures { λ r. ⌜ r ≡ pairOf n ⌝ }
+{
+    if n < 65536 {
+        return n as u16;
+    }
+    65535
+}
+
+// A draw order.
+pub fn draw_of(numbers: [u32; 40]) -> [u8; 40]
+    ensures { λ r. ⌜ r ≡ listOf (drawnAt numbers) 40 ⌝ }
+{
+    let mut draw = [0u8; 40];
+    let mut i = 0;
+    while i < 40 {
+        draw[i] = one_byte(numbers[i]);
+        i += 1;
+    }
+    draw
+}

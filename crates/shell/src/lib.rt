@@ -1,0 +1,94 @@
+// The desk: a line of standard input is answered as soon as it is read.
+mod start;
+
+use answers::Kind;
+use answers::answer;
+pub use start::run;
+use words::Input;
+use words::keep_rest;
+use words::next_end;
+ghost use Prim.Native.Nat.{_≤_};
+ghost use lib.ListN.{length};
+
+// A line, or the end of one that was too long, which is not answered again.
+fn answer_unless(skip: bool, line: &[u8], kind: Kind, path: &[u8], state: &mut [u8; 3333]) {
+    if !skip {
+        answer(line, kind, path, state);
+    }
+}
+
+// Answers each whole line of the first `full` bytes, and gives the place after the last.
+fn answer_lines(
+    buf: &[u8],
+    full: usize,
+    skipping: bool,
+    kind: Kind,
+    path: &[u8],
+    state: &mut [u8; 3333],
+) -> usize
+    requires { ⌜ full ≤ length (now buf) ⌝ }
+    ensures { λ r. ⌜ r ≤ full ⌝ }
+{
+    let mut start = 0;
+    let mut skip = skipping;
+    while start < full {
+        let e = next_end(buf, start, full);
+        if e == full {
+            return start;
+        }
+        answer_unless(skip, &buf[start..e], kind, path, state);
+        skip = false;
+        start = e + 1;
+    }
+    start
+}
+
+// The end of the input: the last line may have no line end.
+fn answer_last(
+    buf: &[u8],
+    end: usize,
+    skipping: bool,
+    kind: Kind,
+    path: &[u8],
+    state: &mut [u8; 3333],
+)
+    requires { ⌜ end ≤ length (now buf) ⌝ }
+{
+    if 0 < end {
+        answer_unless(skipping, &buf[0..end], kind, path, state);
+    }
+}
+
+// Reads once, and answers each line that is then whole. A full buffer without a line end is a line that is too long.
+fn turn(buf: &mut [u8], from: Input, kind: Kind, path: &[u8], state: &mut [u8; 3333]) -> Input {
+    let end = from.end;
+    let skipping = from.skipping;
+    if buf.len() <= end {
+        say::line(b"error the line is longer than 2048 bytes\n");
+        return Input::skipped();
+    }
+    let got = libc::read(0, &mut buf[end..]);
+    let n = io::count(got, &buf[end..]);
+    if n == 0 {
+        answer_last(buf, end, skipping, kind, path, state);
+        return Input::ended();
+    }
+    let full = end + n;
+    let start = answer_lines(buf, full, skipping, kind, path, state);
+    keep_rest(buf, start, full, skipping)
+}
+
+// Room for a line of 2,048 bytes and its end. A proved loop has to end, and nothing says that an input does: so it counts its
+// turns down, from a number that no run uses up.
+fn serve(kind: Kind, path: &[u8], state: &mut [u8; 3333]) {
+    let mut buf = [0u8; 2049];
+    let mut at = Input::begun();
+    let mut turns = u64::MAX;
+    while turns > 0 {
+        at = turn(&mut buf, at, kind, path, state);
+        if at.done {
+            return;
+        }
+        turns -= 1;
+    }
+}

@@ -1,0 +1,20 @@
+-- What `load` says of the state, and the name beside the file's. Assumes nothing.
+use Prim.Native.Nat.{ℕ}
+use mathlib.Core.Path.{_≡_}
+use mathlib.Core.List.{List, [], _∷_, _++_}
+use Rattle.store.specs.declared.Loaded.{Loaded}
+use Rattle.store.specs.declared.Loaded.the-variants.{Missing, Whole, Wrong, Unread}
+
+-- unless the file was whole, the state is as it was
+abbrev pub Kept : Loaded → List ℕ → List ℕ → Type 0
+Kept Missing before after = after ≡ before
+Kept Whole before after = Unit {0}
+Kept Wrong before after = after ≡ before
+Kept (Unread why) before after = after ≡ before
+
+-- `.new`, and a path with it at its end
+abbrev pub dotNew : List ℕ
+dotNew = 46 ∷ 110 ∷ 101 ∷ 119 ∷ []
+
+unfoldable pub newName : List ℕ → List ℕ
+newName path = path ++ dotNew
