@@ -7,7 +7,7 @@ use lib.ListN.{length}
 use lib.Dec.{eqb}
 use Rattle.rules.specs.Card.{countFits, cardLength, filled, bidOf, readRefused, readCard}
 use Rattle.rules.specs.Calls.{bidderOn}
-use Rattle.card.proofs.BitLaws.{field-small}
+use Rattle.bits.proofs.BitLaws.{field-small}
 
 module _ (s : List ℕ) (n : ℕ) where
   small-by : (t u v : Bool) → bidderOn (cond t (cond u (cond v (bidOf s n) (readRefused 5)) (readRefused 4)) (readRefused 29) .card) < 32

@@ -14,7 +14,8 @@ use Rattle.rules.specs.declared.Place.{Place}
 use Rattle.rules.specs.Count.{pickIf, better, sumUpTo}
 use Rattle.rules.specs.Accept.{nowhere, placeAt, changed, column, heldOf, leavingOf, movingOf, riseOf, retain, deny, cancel}
 use Rattle.rules.proofs.Sums.{sum-ext, sum-one, sum-ge}
-use Rattle.keep.specs.Search.{found, nobody, noted, lowerOf, higherOf}
+use Rattle.keep.specs.declared.Best.{Best}
+use Rattle.keep.specs.Search.{found, nobody, noted, higherOf, highestUpTo}
 use Rattle.keep.specs.Room.{Fits, Room}
 use Rattle.keep.specs.Step.{Booked}
 
@@ -31,11 +32,6 @@ module _ (has : ℕ → Bool) (key : ℕ → ℕ) where
   later-by n j true false = refl
   later-by n j false t = refl
 
-  pub lower-next : (q : Pick) (n : ℕ)
-      → noted key (better has (λ i j. ltb (key i) (key j)) q n) ≡ lowerOf (noted key q) n (has n) (key n)
-  lower-next Nobody n = first-by n (has n)
-  lower-next (At j) n = later-by n j (has n) (ltb (key n) (key j))
-
   pub higher-next : (q : Pick) (n : ℕ)
       → noted key (better has (λ i j. ltb (key j) (key i)) q n) ≡ higherOf (noted key q) n (has n) (key n)
   higher-next Nobody n = first-by n (has n)
@@ -44,6 +40,19 @@ module _ (has : ℕ → Bool) (key : ℕ → ℕ) where
   pub noted-who : (q : Pick) → noted key q .who ≡ q
   noted-who Nobody = refl
   noted-who (At j) = refl
+
+module _ (ranks : List ℕ) (b : ℕ) where
+  abbrev pub rankAt : ℕ → ℕ
+  rankAt p = getD ranks (b * 8 + p) 0
+
+  pub highest-next : (p : ℕ) (best next : Best) → best ≡ noted rankAt (highestUpTo ranks b p)
+      → next ≡ higherOf best p (ltb 0 (rankAt p)) (rankAt p) → next ≡ noted rankAt (highestUpTo ranks b (suc p))
+  highest-next p best next e f =
+      f ∙ ap (λ q. higherOf q p (ltb 0 (rankAt p)) (rankAt p)) e
+      ∙ sym (higher-next (λ p. ltb 0 (rankAt p)) rankAt (highestUpTo ranks b p) p)
+
+  pub highest-who : (m : ℕ) (best : Best) → best ≡ noted rankAt (highestUpTo ranks b m) → best .who ≡ highestUpTo ranks b m
+  highest-who m best e = ap (λ b. b .who) e ∙ noted-who (λ p. ltb 0 (rankAt p)) rankAt (highestUpTo ranks b m)
 
 -- ---- the place of bidder b on product p stored anew
 

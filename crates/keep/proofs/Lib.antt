@@ -1,3 +1,3 @@
 pub mod Laws
-pub mod Steps
+pub mod Numbers
 pub mod Turn

@@ -2,18 +2,17 @@
 ghost use mathlib.Core.Path.{_≡_};
 ghost use Prim.Native.Nat.{ℕ, _+_, _-_, _*_, _≤_, _<_};
 ghost use mathlib.Core.Bool.{_&&_};
-ghost use lib.ListN.{getD, length, set};
+ghost use lib.ListN.{getD, length};
 ghost use lib.Dec.{eqb};
-ghost use Rattle.rules.specs.declared.Pick.the-variants.{Nobody};
 ghost use Rattle.rules.specs.Count.{firstUpTo};
 ghost use Rattle.rules.specs.Settings.{targetOf};
 ghost use Rattle.rules.specs.Held.{standing, below, above};
-ghost use Rattle.rules.specs.Accept.{placeAt, column, every, heldOf, leftOf, movingOf};
-ghost use Rattle.rules.specs.Keep.{leaver, risen, cancelBy, denyAt, keepStep, keptAll};
+ghost use Rattle.rules.specs.Accept.{column, every, heldOf, leftOf, riseOf};
+ghost use Rattle.rules.specs.Keep.{keptAll};
 ghost use Rattle.rules.specs.Round.{drawn};
-ghost use Rattle.keep.specs.Search.{nobody, lowerOf, higherOf};
-ghost use Rattle.keep.specs.Room.{Room, Drawn, isOne};
-ghost use Rattle.keep.specs.Step.{Holds, Booked, Before, Changed, Planned};
+ghost use Rattle.keep.specs.Search.{nobody, higherOf, sooner, nextUpTo, highestUpTo};
+ghost use Rattle.keep.specs.Room.{Fits, Room, Drawn, isOne};
+ghost use Rattle.keep.specs.Step.{Holds, Targets, shortBy, Each, Timed, Ranked, rankOf, keptOne, lossBy, cancelSome};
 use rules::Kept;
 use rules::Pick;
 use rules::Place;
@@ -38,28 +37,6 @@ impl Best {
     }
 
     // Of equals the earliest stays.
-    pub fn lower(self, i: usize, has: bool, key: u32) -> Best
-        ensures { λ r. ⌜ r ≡ lowerOf self i has key ⌝ }
-    {
-        if !has {
-            return self;
-        }
-        let who = self.who;
-        let Pick::At(_) = who else {
-            return Best {
-                who: Pick::At(i),
-                key,
-            };
-        };
-        if key < self.key {
-            return Best {
-                who: Pick::At(i),
-                key,
-            };
-        }
-        self
-    }
-
     pub fn higher(self, i: usize, has: bool, key: u32) -> Best
         ensures { λ r. ⌜ r ≡ higherOf self i has key ⌝ }
     {
@@ -157,21 +134,17 @@ fn left(places: [Place; 256], bidders: usize) -> u32
     sum
 }
 
-// The first product in rank that ticked and is below target.
-fn first_short(held: [u32; 8], t: Terms, ticks: [u8; 8]) -> Pick
-    requires { ⌜ (t .products ≤ 8) × ((q : ℕ) → q < 8 → getD held q 0 ≤ 10000000) ⌝ }
-    ensures { λ r. ⌜ r ≡ firstUpTo (λ p. isOne ticks p && below (standing (getD held p 0) (targetOf t p))) (t .products) ⌝ }
+fn targets_of(t: Terms) -> [u16; 8]
+    ensures { λ r. ⌜ Targets r t ⌝ }
 {
-    let n = t.products as usize;
+    let mut all = [0u16; 8];
     let mut p: usize = 0;
-    while p < n {
+    while p < 8 {
         let i = t.item[p];
-        if is_short(held[p], i.target.0, ticks[p]) {
-            return Pick::At(p);
-        }
+        all[p] = i.target.0;
         p += 1;
     }
-    Pick::Nobody
+    all
 }
 
 fn is_short(held: u32, target: u16, tick: u8) -> bool
@@ -184,208 +157,231 @@ fn is_short(held: u32, target: u16, tick: u8) -> bool
     false
 }
 
-// ---- One tranche kept
-
-// What is held of each product, with one tranche more or less of one.
-fn one_more(held: [u32; 8], p: usize) -> [u32; 8]
-    requires { ⌜ (p < 8) × (getD held p 0 ≤ 10000000) ⌝ }
-    ensures { λ r. ⌜ r ≡ set held p (getD held p 0 + 1) ⌝ }
+// The first product in rank that ticked and is below target.
+fn first_short(held: &[u32; 8], targets: &[u16; 8], ticks: &[u8; 8], products: usize) -> Pick
+    requires { ⌜ (products ≤ 8) × ((q : ℕ) → q < 8 → getD (now held) q 0 ≤ 10000000) ⌝ }
+    ensures { λ r. ⌜ r ≡ firstUpTo (shortBy (now (held .entry)) (now (targets .entry)) (now (ticks .entry))) products ⌝ }
 {
-    let mut h = held;
-    h[p] = h[p] + 1;
-    h
+    let mut p: usize = 0;
+    while p < products {
+        if is_short(held[p], targets[p], ticks[p]) {
+            return Pick::At(p);
+        }
+        p += 1;
+    }
+    Pick::Nobody
 }
 
-fn one_less(held: [u32; 8], p: usize) -> [u32; 8]
-    requires { ⌜ (p < 8) × (0 < getD held p 0) ⌝ }
-    ensures { λ r. ⌜ r ≡ set held p (getD held p 0 - 1) ⌝ }
+// ---- The tranche kept
+
+// Turns, of which the lowest is kept first: "Unkept withdrawals go first, lowest exit price first; then switches."
+// The turn of a withdrawal is its exit price.
+const SWITCH: u64 = 4294967296;
+
+const NOTHING: u64 = 4294967297;
+
+fn turn_of(l: Place) -> u64
+    ensures { λ r. ⌜ Timed r l ⌝ }
 {
-    let mut h = held;
-    h[p] = h[p] - 1;
-    h
+    if 0 < l.leaving.count.0 {
+        return l.leaving.exit as u64;
+    }
+    if 0 < l.moving.0 {
+        return SWITCH;
+    }
+    NOTHING
 }
 
-// What stands at one place after a change, and what is then held of each product.
-struct Change {
+fn turns_of(places: [Place; 256]) -> [u64; 256]
+    ensures { λ r. ⌜ (length r ≡ 256) × Each Timed r places ⌝ }
+{
+    let mut all = [0u64; 256];
+    let mut k: usize = 0;
+    while k < 256 {
+        let l = places[k];
+        all[k] = turn_of(l);
+        k += 1;
+    }
+    all
+}
+
+// The lowest turn so far, and where in the draw its bidder stands.
+struct Next {
     pub at: usize,
-    pub place: Place,
-    pub held: [u32; 8],
+    pub turn: u64,
 }
 
-// What stands at two places after a tranche is kept, and what is then held of each product.
-struct Step {
-    pub first: usize,
-    pub one: Place,
-    pub second: usize,
-    pub two: Place,
-    pub held: [u32; 8],
+impl Next {
+    // Of equals the earliest stays.
+    fn sooner(self, i: usize, turn: u64) -> Next
+        ensures { λ r. ⌜ r ≡ sooner self i turn ⌝ }
+    {
+        if turn < self.turn {
+            return Next { at: i, turn };
+        }
+        self
+    }
 }
 
-// "from its increased product with the largest priority number that still has an increase"
-fn cancel_one(
-    places: [Place; 256],
-    held: [u32; 8],
-    b: usize,
-    products: usize,
-    bidders: usize,
-) -> Change
-    requires { ⌜ Booked places held bidders × ((b < bidders) × (products ≤ 8)) ⌝ }
-    ensures { λ r. ⌜ Changed places (cancelBy (risen products places b) places b) bidders r ⌝ }
+// "ties .. go to the bidder earliest in the draw order"
+fn next_turn(turns: &[u64; 256], order: &[u8], p: usize, bidders: usize) -> Next
+    requires { ⌜ (p < 8) × Drawn bidders (now order) ⌝ }
+    ensures { λ r. ⌜ r ≡ nextUpTo (now (turns .entry)) (drawn (now (order .entry))) p bidders ⌝ }
+{
+    let mut best = Next {
+        at: 0,
+        turn: NOTHING,
+    };
+    let mut i: usize = 0;
+    while i < bidders {
+        let b = bidder_at(order, i, bidders);
+        let at = b * 8 + p;
+        best = best.sooner(i, turns[at]);
+        i += 1;
+    }
+    best
+}
+
+fn keep_one(l: Place) -> Place
+    requires { ⌜ Fits l × (0 < leftOf l) ⌝ }
+    ensures { λ r. ⌜ r ≡ keptOne l ⌝ }
+{
+    if 0 < l.leaving.count.0 {
+        return l.retain();
+    }
+    l.keep()
+}
+
+// ---- The increase cancelled
+
+// The priority number, one more, of a product that still has an increase; 0 where none is left.
+fn rank_of(l: Place) -> u32
+    ensures { λ r. ⌜ r ≡ rankOf l ⌝ }
+{
+    if 0 < l.rise.0 {
+        return l.priority as u32 + 1;
+    }
+    0
+}
+
+fn ranks_of(places: [Place; 256]) -> [u32; 256]
+    ensures { λ r. ⌜ (length r ≡ 256) × Each Ranked r places ⌝ }
+{
+    let mut all = [0u32; 256];
+    let mut k: usize = 0;
+    while k < 256 {
+        let l = places[k];
+        all[k] = rank_of(l);
+        k += 1;
+    }
+    all
+}
+
+// "its increased product with the largest priority number that still has an increase"
+fn highest(ranks: &[u32; 256], b: usize, products: usize) -> Pick
+    requires { ⌜ (b < 32) × (products ≤ 8) ⌝ }
+    ensures { λ r. ⌜ r ≡ highestUpTo (now (ranks .entry)) b products ⌝ }
 {
     let mut best = Best::none();
     let mut p: usize = 0;
     while p < products {
         let k = b * 8 + p;
-        let l = places[k];
-        best = best.higher(p, 0 < l.rise.0, l.priority as u32);
+        let rank = ranks[k];
+        best = best.higher(p, 0 < rank, rank);
         p += 1;
     }
-    let who = best.who;
+    best.who
+}
+
+// One increase of a product, or none.
+struct Loss {
+    pub product: usize,
+    pub count: u32,
+}
+
+// "A denied switch cancels one increase of that bidder"; a retained withdrawal cancels none.
+fn lost(turn: u64, ranks: &[u32; 256], b: usize, products: usize) -> Loss
+    requires { ⌜ (b < 32) × (products ≤ 8) ⌝ }
+    ensures { λ r. ⌜ r ≡ lossBy turn (highestUpTo (now (ranks .entry)) b products) ⌝ }
+{
+    let none = Loss {
+        product: 0,
+        count: 0,
+    };
+    if turn < SWITCH {
+        return none;
+    }
+    let who = highest(ranks, b, products);
     let Pick::At(c) = who else {
-        let at = b * 8;
-        let place = places[at];
-        return Change { at, place, held };
+        return none;
     };
-    let at = b * 8 + c;
-    let l = places[at];
-    let place = l.cancel();
-    let fewer = one_less(held, c);
-    Change {
-        at,
-        place,
-        held: fewer,
+    Loss {
+        product: c,
+        count: 1,
     }
 }
 
-// "A denied switch cancels one increase of that bidder"
-fn deny_step(
-    places: [Place; 256],
-    held: [u32; 8],
-    b: usize,
-    p: usize,
-    products: usize,
-    bidders: usize,
-) -> Step
-    requires { ⌜ Booked places held bidders × ((b < bidders) × ((p < 8) × ((products ≤ 8) × (0 < movingOf (placeAt places (b * 8 + p)))))) ⌝ }
-    ensures { λ r. ⌜ Planned places (denyAt products places b p) bidders r ⌝ }
+fn cancel_some(l: Place, count: u32) -> Place
+    requires { ⌜ Fits l × (0 < count → 0 < riseOf l) ⌝ }
+    ensures { λ r. ⌜ r ≡ cancelSome count l ⌝ }
 {
-    let k = b * 8 + p;
-    let l = places[k];
-    let x = l.keep();
-    let h = one_more(held, p);
-    let mut denied = places;
-    denied[k] = x;
-    let c = cancel_one(denied, h, b, products, bidders);
-    let two = c.place;
-    let after = c.held;
-    Step {
-        first: k,
-        one: x,
-        second: c.at,
-        two,
-        held: after,
+    if 0 < count {
+        return l.cancel();
     }
+    l
 }
 
-// No withdrawal is left, and the switch of the bidder earliest in the draw is denied.
-fn plan_switch(
-    places: [Place; 256],
-    held: [u32; 8],
-    order: &[u8],
-    p: usize,
-    products: usize,
-    bidders: usize,
-) -> Step
-    requires { ⌜ Before products bidders (now order) places held p × (leaver bidders (drawn (now order)) places p ≡ Nobody) ⌝ }
-    ensures { λ r. ⌜ Planned places (keepStep products bidders (drawn (now (order .entry))) places p) bidders r ⌝ }
-{
-    let mut i: usize = 0;
-    while i < bidders {
-        let b = bidder_at(order, i, bidders);
-        let k = b * 8 + p;
-        let l = places[k];
-        if 0 < l.moving.0 {
-            return deny_step(places, held, b, p, products, bidders);
-        }
-        i += 1;
-    }
-    let l = places[0];
-    Step {
-        first: 0,
-        one: l,
-        second: 0,
-        two: l,
-        held,
-    }
-}
+// ---- The whole
 
-// Unkept withdrawals go first, lowest exit price first.
-fn plan(
-    places: [Place; 256],
-    held: [u32; 8],
-    order: &[u8],
-    p: usize,
-    products: usize,
-    bidders: usize,
-) -> Step
-    requires { ⌜ Before products bidders (now order) places held p ⌝ }
-    ensures { λ r. ⌜ Planned places (keepStep products bidders (drawn (now (order .entry))) places p) bidders r ⌝ }
-{
-    let mut best = Best::none();
-    let mut i: usize = 0;
-    while i < bidders {
-        let b = bidder_at(order, i, bidders);
-        let k = b * 8 + p;
-        let l = places[k];
-        best = best.lower(i, 0 < l.leaving.count.0, l.leaving.exit);
-        i += 1;
-    }
-    let who = best.who;
-    let Pick::At(j) = who else {
-        return plan_switch(places, held, order, p, products, bidders);
-    };
-    let b = bidder_at(order, j, bidders);
-    let k = b * 8 + p;
-    let l = places[k];
-    let x = l.retain();
-    let h = one_more(held, p);
-    Step {
-        first: k,
-        one: x,
-        second: k,
-        two: x,
-        held: h,
-    }
-}
-
-// The first short product is looked for again after every tranche kept.
+// The first short product is looked for again after every tranche kept. Beside the places stand the numbers that the searches look
+// at, which are lent to them: a copy of the places for each tranche would be most of the work.
 pub fn keep_all(places: [Place; 256], t: Terms, ticks: [u8; 8], order: &[u8]) -> Kept
     requires { ⌜ (t .products ≤ 8) × (Drawn (t .bidders) (now order) × Room places) ⌝ }
     ensures { λ r. ⌜ (r ≡ keptAll (t .products) (t .bidders) (targetOf t) (isOne ticks) (drawn (now (order .entry))) places) × Room (r .places) ⌝ }
 {
     let m = t.products as usize;
     let n = t.bidders as usize;
+    let targets = targets_of(t);
     let mut work = places;
     let mut held = held_all(places, n);
+    let mut turns = turns_of(places);
+    let mut ranks = ranks_of(places);
     let mut count: u32 = 0;
     let mut fuel = left(places, n);
     while 0 < fuel {
-        let q = first_short(held, t, ticks);
+        let q = first_short(&held, &targets, &ticks, m);
         let Pick::At(p) = q else {
             return Kept {
                 places: work,
                 count,
             };
         };
-        let s = plan(work, held, order, p, m, n);
-        let first = s.first;
-        let one = s.one;
-        let second = s.second;
-        let two = s.two;
-        let h = s.held;
-        work[first] = one;
-        work[second] = two;
-        held = h;
+        let s = next_turn(&turns, order, p, n);
+        // Nothing is left to keep there, and every turn to come would find the same.
+        if s.turn == NOTHING {
+            let all = count + fuel;
+            return Kept {
+                places: work,
+                count: all,
+            };
+        }
+        let b = bidder_at(order, s.at, n);
+        let k = b * 8 + p;
+        let l = work[k];
+        let one = keep_one(l);
+        work[k] = one;
+        turns[k] = turn_of(one);
+        held[p] = held[p] + 1;
+        let x = lost(s.turn, &ranks, b, m);
+        let c = x.product;
+        let at = b * 8 + c;
+        let y = work[at];
+        let two = cancel_some(y, x.count);
+        work[at] = two;
+        ranks[at] = rank_of(two);
+        let had = held[c];
+        let fewer = had - x.count;
+        held[c] = fewer;
         count += 1;
         fuel -= 1;
     }
