@@ -1,0 +1,318 @@
+#!/usr/bin/env python3
+"""Plays random auctions in the desk and in tests/model.py, and compares every answer and every box.
+
+    tests/against.py [SESSIONS [BOXES [SEED]]]
+
+The desk is ./desk, or the program that DESK names. Not part of the gate.
+"""
+import os
+import random
+import subprocess
+import sys
+import tempfile
+
+sys.dont_write_bytecode = True
+sys.path.insert(0, os.path.dirname(os.path.abspath(__file__)))
+import model
+
+ROOT = os.path.dirname(os.path.dirname(os.path.abspath(__file__)))
+DESK = os.environ.get('DESK', os.path.join(ROOT, 'desk'))
+
+
+def opening(rnd):
+    n = rnd.choice([1, 2, 2, 3, 3, 4, 5, 8])
+    m = rnd.choice([1, 2, 3, 3, 4, 4, 5, 6, 8, 12, 32])
+    most = rnd.choice([1, 2, 2, 3, 3, 4, 6, 10, 30, 200])
+    targets = sorted((rnd.randint(1, most) for _ in range(n)), reverse=True)
+    caps = [t if rnd.random() < .6 else rnd.randint(1, t) for t in targets]
+    price = rnd.choice([1, 2, 5, 20, 300, 1000, 14500, 99999])
+    prices = [price if rnd.random() < .5 else rnd.randint(1, price) for _ in range(n)]
+    statewide = sum(targets) if rnd.random() < .6 else rnd.randint(1, sum(targets))
+    eligible = [statewide if rnd.random() < .4 else rnd.randint(1, statewide) for _ in range(m)]
+    rows, percent = [], 0
+    for _ in range(rnd.randint(1, 8)):
+        rows.append((percent, rnd.choice([50, 100, 175, 300, 425, 500, rnd.randint(50, 500)])))
+        percent += rnd.choice([1, 5, 20, 50, 100, 9000])
+        if percent > 60000:
+            break
+    words = ['open', rnd.choice(['kwh', 'mwday']), statewide, 'product']
+    for t in zip(targets, caps, prices):
+        words += t
+    words += ['bidder'] + eligible + ['row']
+    for r in rows:
+        words += r
+    return ' '.join(map(str, words))
+
+
+def good_bid(rnd, a, i):
+    """A bid of bidder i that passes 8 to 13, where one is found."""
+    n = a.products
+    own = a.record[i]
+    room = sum(c.g for c in own) + a.free[i]
+    b = []
+    for j in range(n):
+        g, top = own[j].g, max(0, a.cap[j] - own[j].d - own[j].r)
+        move = rnd.random()
+        if a.round == 1:
+            b.append(top if move < .6 else rnd.randint(0, top))
+        elif a.ticked(j):
+            b.append(g if move < .5 else max(0, g - rnd.choice([1, 1, 2, 3, g])) if move < .85 else rnd.randint(0, top))
+        else:
+            b.append(g if move < .5 else min(max(g, top), g + rnd.choice([1, 1, 2, 3])))
+    order = list(range(n))
+    rnd.shuffle(order)
+    for j in order:
+        over = sum(b) - room
+        low = 0 if a.ticked(j) else own[j].g
+        if over > 0 and b[j] > low:
+            b[j] = max(low, b[j] - over)
+    R = [max(0, own[j].g - b[j]) for j in range(n)]
+    I = [max(0, b[j] - own[j].g) for j in range(n)]
+    s = max(0, sum(I) - a.free[i])
+    w = sum(R) - s
+    withdrawn = [0] * n
+    rnd.shuffle(order)
+    for j in order:
+        take = min(R[j], w)
+        withdrawn[j] = take
+        w -= take
+    exits = [0] * n
+    for j in range(n):
+        if withdrawn[j] > 0 and a.q[j] > a.p[j]:
+            exits[j] = rnd.choice([a.q[j], a.p[j] + 1, rnd.randint(a.p[j] + 1, a.q[j])])
+    priority = [0] * n
+    if s > 0:
+        up = [j for j in range(n) if I[j] > 0]
+        rnd.shuffle(up)
+        for k, j in enumerate(up):
+            priority[j] = k + 1
+    return [[b[j], withdrawn[j], exits[j], priority[j]] for j in range(n)]
+
+
+NUMBERS = [0, 0, 1, 1, 2, 3, 5, 7, 8, 31, 32, 200, 201, 255, 256, 257, 4095, 4096, 65535, 65536, 99999, 100000, 131071, 131072,
+           4294967295]
+
+
+def spoiled_fields(rnd, a, lines):
+    lines = [list(l) for l in lines]
+    for _ in range(rnd.choice([1, 1, 2])):
+        j, k = rnd.randrange(len(lines)), rnd.randrange(4)
+        if k == 2:
+            lines[j][k] = rnd.choice([0, a.p[j], a.p[j] + 1, a.q[j], a.q[j] + 1, rnd.choice(NUMBERS)])
+        else:
+            lines[j][k] = max(0, lines[j][k] + rnd.choice([-1, 1, 1, 2])) if rnd.random() < .8 else rnd.choice(NUMBERS)
+    return lines
+
+
+def bid_line(i, lines):
+    return 'bid %d ' % i + ' '.join(' %d %d %d %d' % tuple(l) for l in lines)
+
+
+def spoiled_text(rnd, line):
+    words = line.split(' ')
+    for _ in range(rnd.choice([1, 1, 2])):
+        k = rnd.randrange(len(words))
+        what = rnd.randrange(10)
+        if what == 0:
+            del words[k]
+            words = words or ['count']
+        elif what == 1:
+            words.insert(k, words[k])
+        elif what == 2:
+            words[k] = rnd.choice(['x', '-1', '+1', '1.0', '4294967295', '4294967296', '99999999999999999999', '00000000000000007', '0x1',
+                                   '99999999999x', '#', '0g', 'G', 'abc', 'AB', 'Fe0'])
+        elif what == 3:
+            words[k] = words[k].upper()
+        elif what == 4:
+            words[k] = words[k] + rnd.choice(['', ' ', '\t', '\r', '  ', '\x01', '\x7f', '\u00e9'])
+        elif what == 5:
+            words[k] = rnd.choice(['', ' ', '\t', '   ']) + words[k]
+        elif what == 6:
+            words.append(str(rnd.choice(NUMBERS)))
+        elif what == 7:
+            words = words[:k + 1]
+        elif what == 8 and words[k]:
+            p = rnd.randrange(len(words[k]))
+            words[k] = words[k][:p] + rnd.choice('0123456789abcdefgzkwh-#') + words[k][p + 1:]
+        else:
+            words[k] = str(rnd.choice(NUMBERS))
+    return ' '.join(words)
+
+
+def some_card(rnd, n):
+    lines = [[rnd.choice(NUMBERS) % 256, rnd.randrange(3), rnd.choice(NUMBERS) % 131072, rnd.randrange(8)] for _ in range(n)]
+    return model.write_card(n, rnd.randrange(32), rnd.choice([0, 1, 2, 3, 4095]), model.groups(sum(lines, [])))
+
+
+def loose_line(rnd):
+    what = rnd.randrange(7)
+    n = rnd.choice([1, 2, 3, 4, 5, 6, 7, 8, 8, 0, 9, 256])
+    if what == 0:
+        return 'read %d %s' % (n, some_card(rnd, n if 1 <= n <= 8 else 1).hex())
+    if what == 1:
+        card = bytearray(some_card(rnd, rnd.randint(1, 8)))
+        card[-1] |= rnd.choice([0, 1, 2, 4, 8, 64])
+        return 'read %d %s' % (n, bytes(card).hex().upper())
+    if what == 2:
+        k = rnd.randint(0, 8)
+        return 'write %d %d %d' % (n, rnd.choice(NUMBERS), rnd.choice(NUMBERS)) + ''.join(
+            '  %d %d %d %d' % tuple(rnd.choice(NUMBERS + [0] * 20) for _ in range(4)) for _ in range(k))
+    if what == 3:
+        k = rnd.randint(1, 8)
+        return 'write %d %d %d' % (k, rnd.randrange(32), rnd.randrange(4096)) + ''.join(
+            '  %d %d %d %d' % (rnd.randrange(256), rnd.randrange(256), rnd.randrange(131072), rnd.randrange(8)) for _ in range(k))
+    if what == 4:
+        return 'file ' + bytes(rnd.randrange(256) for _ in range(rnd.choice([0, 1, 7, 12, 16, 21, 39, 40, 500, 1021]))).hex()
+    if what == 5:
+        return rnd.choice(['', '   ', '# remark', '  # remark', 'help', 'nothing', 'open', 'bid', 'file', 'read', 'write', 'count 0'])
+    return 'x' * rnd.choice([1, 2047, 2048, 2049, 2050, 4097, 5000]) if rnd.random() < .3 else 'read 2 ' + ' ' * rnd.choice(
+        [2016, 2017, 2018, 2019]) + '080100800000001000000080'
+
+
+def session(rnd, desk, lines, states):
+    """One hire of the box: appends its commands, and some states on the way; `desk` is the model, which plays along."""
+    def say(line):
+        lines.append(line)
+        if rnd.random() < .03:
+            states.append(desk.state)
+        return desk.answer(line.encode())
+    say('return')
+    while say(opening(rnd)) != ['ok']:
+        pass
+    for _ in range(rnd.choice([2, 4, 8, 15, 25])):
+        a = model.load(desk.state)
+        if a.phase != model.OPEN:
+            break
+        who = list(range(a.bidders))
+        rnd.shuffle(who)
+        absent = rnd.choice([0, 0, 0, 0, 0, 0, .05, .3])
+        for i in who:
+            if rnd.random() < absent:
+                continue
+            fields = good_bid(rnd, a, i)
+            if rnd.random() < .1:
+                say(bid_line(i, spoiled_fields(rnd, a, fields)))
+            if rnd.random() < .03:
+                say(spoiled_text(rnd, bid_line(i, fields)))
+            if rnd.random() < .2:
+                try:
+                    card = model.write_card(a.products, i, a.round + (rnd.random() < .05), model.groups(sum(fields, [])))
+                    line = 'file ' + card.hex()
+                    say(line if rnd.random() < .9 else spoiled_text(rnd, line))
+                except model.Refused:
+                    pass
+            else:
+                say(bid_line(i, fields))
+            if rnd.random() < .03:
+                say(rnd.choice(['count', 'show', 'result', 'report %d' % i, 'report 255']))
+            if rnd.random() < .02:
+                say(loose_line(rnd))
+        if rnd.random() < .3:
+            say('show')
+        draw = list(range(a.bidders))
+        rnd.shuffle(draw)
+        line = 'calculate ' + ' '.join(map(str, draw))
+        if rnd.random() < .05:
+            say(spoiled_text(rnd, line))
+        say(line)
+        for i in rnd.sample(range(a.bidders), min(a.bidders, 3)):
+            say('report %d' % i)
+        say('show')
+    say('result')
+    for _ in range(rnd.randint(0, 3)):
+        say(loose_line(rnd))
+    say(spoiled_text(rnd, rnd.choice(['count', 'result', 'show', 'return', 'report 0', 'help', opening(rnd), opening(rnd), opening(rnd)])))
+
+
+def run_desk(text, *args):
+    done = subprocess.run([DESK, *args], input=text, stdout=subprocess.PIPE, check=True)
+    return done.stdout
+
+
+def differ(lines, got):
+    """The first line of which the answers differ."""
+    desk = model.Desk()
+    at = 0
+    said = got.decode().split('\n')
+    for k, line in enumerate(lines):
+        want = desk.answer(line.encode())
+        if said[at:at + len(want)] != want:
+            return k, line, want, said[at:at + len(want) + 1]
+        at += len(want)
+    return None
+
+
+def play(sessions, seed):
+    rnd = random.Random(seed)
+    asked = wrong = 0
+    states = []
+    for first in range(0, sessions, 50):
+        desk, lines = model.Desk(), []
+        for _ in range(min(50, sessions - first)):
+            session(rnd, desk, lines, states)
+        text = '\n'.join(lines).encode() + rnd.choice([b'\n', b''])
+        want = model.Desk()
+        told = b''.join(s.encode() + b'\n' for line in lines for s in want.answer(line.encode()))
+        got = run_desk(text)
+        asked += len(lines)
+        if got != told:
+            wrong += 1
+            print('DIFFERENCE in sessions from %d:' % first, differ(lines, got))
+    return asked, wrong, states
+
+
+LOOK = ['count', 'report 0', 'report 1', 'result', 'show', 'calculate 0', 'calculate 0 1', 'calculate 1 0 2', 'return', 'file 00']
+
+
+def spoiled_state(rnd, state):
+    state = bytearray(state)
+    for _ in range(rnd.choice([0, 0, 1, 1, 1, 2])):
+        k = rnd.choice([rnd.randrange(13), rnd.randrange(13, 101), rnd.randrange(101, 229), rnd.randrange(229, 261), 261 + rnd.randrange(20),
+                        261 + 48 * rnd.randrange(6) + rnd.randrange(18), 1797 + 48 * rnd.randrange(6) + rnd.randrange(18),
+                        rnd.randrange(3333)])
+        state[k] = rnd.choice([0, 1, 2, state[k] ^ 1, (state[k] + 1) % 256, (state[k] - 1) % 256, rnd.randrange(256), 255])
+    state = bytes(state)
+    if rnd.random() < .05:
+        state = state[:rnd.randrange(3333)] if rnd.random() < .5 else state + bytes(rnd.randint(1, 9))
+    return state
+
+
+def boxes(many, seed, states):
+    rnd = random.Random(seed + 1)
+    wrong = stood = 0
+    with tempfile.TemporaryDirectory() as folder:
+        ours, theirs = os.path.join(folder, 'model'), os.path.join(folder, 'desk')
+        for k in range(many):
+            state = spoiled_state(rnd, rnd.choice(states))
+            for path in (ours, theirs):
+                with open(path, 'wb') as file:
+                    file.write(state)
+            lines = ['count'] + rnd.sample(LOOK, 4)
+            if len(state) == model.LENGTH and 1 <= model.load(state).bidders <= 32 and rnd.random() < .7:
+                draw = list(range(model.load(state).bidders))
+                rnd.shuffle(draw)
+                lines[2] = 'calculate ' + ' '.join(map(str, draw))
+                lines += ['show', 'report 0']
+            desk = model.Desk(ours)
+            told = ''.join(s + '\n' for line in lines for s in desk.answer(line.encode())).encode()
+            got = run_desk('\n'.join(lines).encode() + b'\n', theirs)
+            stood += not told.startswith((b'refused 2', b'refused 1'))
+            with open(ours, 'rb') as one, open(theirs, 'rb') as two:
+                same = one.read() == two.read()
+            if got != told or not same:
+                wrong += 1
+                print('DIFFERENCE in box %d:' % k, lines, told, got, 'bytes %s' % ('same' if same else 'differ'))
+    return wrong, stood
+
+
+def main():
+    sessions, many, seed = (list(map(int, sys.argv[1:])) + [300, 300, 1][len(sys.argv) - 1:])[:3]
+    asked, wrong, states = play(sessions, seed)
+    print('%d sessions, %d lines, %d differences' % (sessions, asked, wrong))
+    off, stood = boxes(many, seed, states)
+    print('%d boxes, %d of them standing or issued, %d differences' % (many, stood, off))
+    return 1 if wrong or off else 0
+
+
+if __name__ == '__main__':
+    sys.exit(main())
