@@ -742,9 +742,12 @@ COMMANDS = {
 
 HELP = [
     'ok',
-    "  open UNIT STATEWIDE product T C P .. bidder E .. row PCT DEC ..   open an auction; UNIT kwh or mwday; a product's target, cap and starting price; a bidder's initial eligibility; a row's percentage and decrement",
+    "  open UNIT STATEWIDE product T C P .. bidder E .. row PCT DEC ..   open an auction:",
+    "      UNIT is kwh or mwday; T C P are a product's target, cap and starting price;",
+    "      E is a bidder's initial eligibility; PCT DEC are a row's percentage and decrement",
     '  file HEX   file a card',
-    "  bid B T W X P ..   write bidder B's card of the present round and file it; a product's tranches, withdrawn, exit and priority",
+    "  bid B T W X P ..   write bidder B's card of the present round and file it:",
+    "      T W X P are a product's tranches, withdrawn, exit and priority",
     '  count   how many bidders are still to file',
     '  calculate D0 D1 ..   calculate the round; the bidders in draw order',
     '  report B   the report to bidder B',

@@ -69,12 +69,17 @@ fn help(line: &[u8], c: Cursor) {
     if asked::ends(line, c) {
         say_line(b"ok\n");
         say_line(
-            b"  open UNIT STATEWIDE product T C P .. bidder E .. row PCT DEC ..   open an auction; UNIT kwh or mwday; a product's target, cap and starting price; a bidder's initial eligibility; a row's percentage and decrement\n",
+            b"  open UNIT STATEWIDE product T C P .. bidder E .. row PCT DEC ..   open an auction:\n",
+        );
+        say_line(
+            b"      UNIT is kwh or mwday; T C P are a product's target, cap and starting price;\n",
+        );
+        say_line(
+            b"      E is a bidder's initial eligibility; PCT DEC are a row's percentage and decrement\n",
         );
         say_line(b"  file HEX   file a card\n");
-        say_line(
-            b"  bid B T W X P ..   write bidder B's card of the present round and file it; a product's tranches, withdrawn, exit and priority\n",
-        );
+        say_line(b"  bid B T W X P ..   write bidder B's card of the present round and file it:\n");
+        say_line(b"      T W X P are a product's tranches, withdrawn, exit and priority\n");
         say_line(b"  count   how many bidders are still to file\n");
         say_line(b"  calculate D0 D1 ..   calculate the round; the bidders in draw order\n");
         say_line(b"  report B   the report to bidder B\n");

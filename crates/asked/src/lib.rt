@@ -7,7 +7,7 @@ mod opening;
 pub use bidding::card;
 pub use bidding::groups;
 pub use bidding::lines_of;
-pub use numbers::Some;
+pub use numbers::One;
 pub use numbers::all_numbers;
 pub use numbers::draw_of;
 pub use numbers::ends;

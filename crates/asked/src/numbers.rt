@@ -53,25 +53,25 @@ pub fn too_large(at: usize) {
 }
 
 // A number, and the place after it; or that what is wrong was said.
-pub enum Some {
+pub enum One {
     Number(u32, Cursor),
     Said,
 }
 
-pub fn one_number(line: &[u8], c: Cursor) -> Some {
+pub fn one_number(line: &[u8], c: Cursor) -> One {
     match take_number(line, c) {
-        Take::Number(n, next) => Some::Number(n, next),
+        Take::Number(n, next) => One::Number(n, next),
         Take::TooLarge(p) => {
             too_large(p);
-            Some::Said
+            One::Said
         }
         Take::NotANumber(p) => {
             wrong(b"not a number", p);
-            Some::Said
+            One::Said
         }
         Take::End => {
             wrong(b"a number is missing", line.len());
-            Some::Said
+            One::Said
         }
     }
 }

@@ -3,7 +3,7 @@ ghost use mathlib.Core.Path.{_≡_};
 ghost use Rattle.rules.specs.Count.{listOf};
 ghost use Rattle.asked.specs.Asked.{countOf, unitNamed, productAsked, productAt, bidderAsked, rowAsked, rowAt, settingsAsked};
 use crate::numbers::List;
-use crate::numbers::Some;
+use crate::numbers::One;
 use crate::numbers::ends;
 use crate::numbers::one_number;
 use crate::numbers::take_numbers;
@@ -308,7 +308,7 @@ pub fn settings(line: &[u8], c: Cursor) -> Opening {
         wrong(b"the unit is kwh or mwday", a);
         return nothing();
     }
-    let Some::Number(statewide, next) = one_number(line, Cursor { at: e }) else {
+    let One::Number(statewide, next) = one_number(line, Cursor { at: e }) else {
         return nothing();
     };
     lists(line, next, unit, statewide)

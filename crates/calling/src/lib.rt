@@ -1,5 +1,5 @@
 // The calls on an auction. A call that changes the state is made on a copy of it.
-use asked::Some;
+use asked::One;
 use asked::draw_of;
 use asked::ends;
 use asked::one_byte;
@@ -163,7 +163,7 @@ fn reported(state: &[u8; 3333], given: Reported) {
 }
 
 pub fn report(line: &[u8], c: Cursor, kind: Kind, state: &[u8; 3333]) {
-    let Some::Number(b, next) = one_number(line, c) else {
+    let One::Number(b, next) = one_number(line, c) else {
         return;
     };
     if ends(line, next) {

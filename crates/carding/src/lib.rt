@@ -1,5 +1,5 @@
 // The commands that write, read and file cards.
-use asked::Some;
+use asked::One;
 use asked::groups;
 use asked::lines_of;
 use asked::one_byte;
@@ -113,13 +113,13 @@ fn written(products: usize, bidder: u8, round: u16, lines: [Line; 8]) {
 }
 
 pub fn write(line: &[u8], c: Cursor) {
-    let Some::Number(products, at_bidder) = one_number(line, c) else {
+    let One::Number(products, at_bidder) = one_number(line, c) else {
         return;
     };
-    let Some::Number(bidder, at_round) = one_number(line, at_bidder) else {
+    let One::Number(bidder, at_round) = one_number(line, at_bidder) else {
         return;
     };
-    let Some::Number(round, at_lines) = one_number(line, at_round) else {
+    let One::Number(round, at_lines) = one_number(line, at_round) else {
         return;
     };
     let mut numbers = [0u32; 40];
@@ -144,7 +144,7 @@ fn read_card(card: &[u8; 1024], n: usize, products: usize) -> CardRead {
 }
 
 pub fn read(line: &[u8], c: Cursor) {
-    let Some::Number(products, next) = one_number(line, c) else {
+    let One::Number(products, next) = one_number(line, c) else {
         return;
     };
     let mut bytes = [0u8; 1024];
@@ -227,7 +227,7 @@ fn other_count(products: usize, at: usize) {
 }
 
 pub fn bid(line: &[u8], c: Cursor, kind: Kind, path: &[u8], state: &mut [u8; 3333]) {
-    let Some::Number(bidder, next) = one_number(line, c) else {
+    let One::Number(bidder, next) = one_number(line, c) else {
         return;
     };
     let mut numbers = [0u32; 40];
