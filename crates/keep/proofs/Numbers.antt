@@ -21,8 +21,10 @@ use Rattle.keep.specs.Step.{Each, turnBy, Timed, rankBy, rankOf, Ranked}
 
 -- ---- one place stored anew, with its number or beside it
 
-module _ (R : ℕ → Place → Type 0) (vs : List ℕ) (ps : List Place) (long : length ps ≡ 256) (E : Each R vs ps) (k : ℕ) (lk : k < 256) (x : Place) where
-  set-by : (v : ℕ) → length vs ≡ 256 → R v x → (j : ℕ) → j < 256 → (t : Bool) → eqb j k ≡ t → R (getD (set vs k v) j 0) (placeAt (set ps k x) j)
+module _ (R : ℕ → Place → Type 0) (vs : List ℕ) (ps : List Place) (long : length ps ≡ 256) (E : Each R vs ps) (k : ℕ)
+    (lk : k < 256) (x : Place) where
+  set-by : (v : ℕ) → length vs ≡ 256 → R v x → (j : ℕ) → j < 256 → (t : Bool) → eqb j k ≡ t → R (getD (set vs k v) j 0)
+      (placeAt (set ps k x) j)
   set-by v lv r j l true e =
       let i : k < length ps = omega arith in
       let h : k < length vs = omega arith in
@@ -95,10 +97,12 @@ module _ (leaves moves : ℕ → Bool) (exit : ℕ → ℕ) where
     next-is (suc n) h =
         ap (λ s. sooner s n (turn n)) (next-is n (λ i l. h i (omega arith)))
         ∙ ap (λ t. sooner (nextBy (lowest n) (firstUpTo moves n)) n t) (h n (omega arith) .0)
-        ∙ past (lowest n) (firstUpTo moves n) n (λ j e. h j (omega (arith, best-found leaves (λ i j. ltb (exit i) (exit j)) n j e .0)) .1)
+        ∙ past (lowest n) (firstUpTo moves n) n (λ j e. h j (omega
+        (arith, best-found leaves (λ i j. ltb (exit i) (exit j)) n j e .0)) .1)
         (h n (omega arith) .1)
 
-  nothing-by : (q r : Pick) → ((j : ℕ) → q ≡ At j → exit j ≤ 4294967295) → nextBy q r .turn ≡ 4294967297 → (q ≡ Nobody) × (r ≡ Nobody)
+  nothing-by : (q r : Pick) → ((j : ℕ) → q ≡ At j → exit j ≤ 4294967295) → nextBy q r .turn ≡ 4294967297 → (q ≡ Nobody) ×
+      (r ≡ Nobody)
   nothing-by (At j) r h e = let z = h j refl in absurd (let f : ⊥ = omega arith in f)
   nothing-by Nobody (At j) h e = absurd (let f : ⊥ = omega arith in f)
   nothing-by Nobody Nobody h e = (refl, refl)
@@ -108,7 +112,8 @@ module _ (leaves moves : ℕ → Bool) (exit : ℕ → ℕ) where
   withdrawal-by Nobody (At j) l = absurd (let f : ⊥ = omega arith in f)
   withdrawal-by Nobody Nobody l = absurd (let f : ⊥ = omega arith in f)
 
-  switch-by : (q r : Pick) → ((j : ℕ) → q ≡ At j → exit j ≤ 4294967295) → 4294967296 ≤ nextBy q r .turn → (nextBy q r .turn ≡ 4294967297 → ⊥)
+  switch-by : (q r : Pick) → ((j : ℕ) → q ≡ At j → exit j ≤ 4294967295) → 4294967296 ≤ nextBy q r .turn →
+      (nextBy q r .turn ≡ 4294967297 → ⊥)
       → (q ≡ Nobody) × (r ≡ At (nextBy q r .at))
   switch-by (At j) r h l d = let z = h j refl in absurd (let f : ⊥ = omega arith in f)
   switch-by Nobody (At j) h l d = (refl, refl)
@@ -160,14 +165,16 @@ module _ (ps : List Place) (turns : List ℕ) (E : Each Timed turns ps) (draw : 
 
     pub next-withdrawal : s .turn < 4294967296 → Withdrawal (s .at)
     next-withdrawal l =
-        let w = withdrawal-by leaves moves exits (leaver n draw ps p) (mover n draw ps p) (subst (λ s. s .turn < 4294967296) same l) in
+        let w = withdrawal-by leaves moves exits (leaver n draw ps p) (mover n draw ps p)
+        (subst (λ s. s .turn < 4294967296) same l) in
         let z : leaver n draw ps p ≡ At (s .at) = w ∙ ap (λ s. At (s .at)) (sym same) in
         let f = best-found leaves (λ i j. ltb (exits i) (exits j)) n (s .at) z in
         record { first = z; some = ltb-true _ _ (f .1); drawn = f .0 }
 
     pub next-switch : 4294967296 ≤ s .turn → (s .turn ≡ 4294967297 → ⊥) → Switch (s .at)
     next-switch l d =
-        let w = switch-by leaves moves exits (leaver n draw ps p) (mover n draw ps p) small (subst (λ s. 4294967296 ≤ s .turn) same l)
+        let w = switch-by leaves moves exits (leaver n draw ps p) (mover n draw ps p) small
+        (subst (λ s. 4294967296 ≤ s .turn) same l)
         (subst (λ s. s .turn ≡ 4294967297 → ⊥) same d) in
         let z : mover n draw ps p ≡ At (s .at) = w .1 ∙ ap (λ s. At (s .at)) (sym same) in
         let f = best-found moves never n (s .at) z in
@@ -212,11 +219,13 @@ module _ (has : ℕ → Bool) (key rank : ℕ → ℕ) where
   rank-best (suc n) h =
       ap (λ q. better (λ i. ltb 0 (rank i)) (λ i j. ltb (rank j) (rank i)) q n) (rank-best n (λ i l. h i (omega arith)))
       ∙ rank-step (largest n) n
-      (λ j e. let f = best-found has (λ i j. ltb (key j) (key i)) n j e in h j (omega (arith, f .0)) ∙ ap (λ t. rankBy t (key j)) (f .1))
+      (λ j e. let f = best-found has (λ i j. ltb (key j) (key i)) n j e in h j (omega (arith, f .0)) ∙ ap (λ t. rankBy t (key j))
+      (f .1))
       (h n (omega arith))
 
 pub highest-same : (ps : List Place) (ranks : List ℕ) → Each Ranked ranks ps → (b m : ℕ) → b < 32 → m ≤ 8
     → highestUpTo ranks b m ≡ risen m ps b
 highest-same ps ranks E b m lb lm =
-    rank-best (λ p. ltb 0 (riseOf (placeAt ps (b * 8 + p)))) (λ p. placeAt ps (b * 8 + p) .priority) (λ p. getD ranks (b * 8 + p) 0) m
+    rank-best (λ p. ltb 0 (riseOf (placeAt ps (b * 8 + p)))) (λ p. placeAt ps (b * 8 + p) .priority)
+    (λ p. getD ranks (b * 8 + p) 0) m
     (λ p l. E (b * 8 + p) (omega arith))

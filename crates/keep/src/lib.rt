@@ -1,6 +1,6 @@
 // "Calculating", step 2: "While some ticked product is below target, take the first in rank and keep one tranche there."
 ghost use mathlib.Core.Path.{_≡_};
-ghost use Prim.Native.Nat.{ℕ, _+_, _-_, _*_, _≤_, _<_};
+ghost use Prim.Native.Nat.{ℕ, _≤_, _<_};
 ghost use mathlib.Core.Bool.{_&&_};
 ghost use lib.ListN.{getD, length};
 ghost use lib.Dec.{eqb};

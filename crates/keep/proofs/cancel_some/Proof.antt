@@ -4,19 +4,13 @@ use borrow.Author.Tests.{lt-ltb, le-ltb}
 use borrow.Author.Needs.{needs}
 use Rattle.keep.proofs.cancel_some.Statement.{statement}
 use Rattle.keep.proofs.cancel_some.Tie as tie
-use Rattle.keep.proofs.cancel_some.Reads as reads
-use Rattle.keep.proofs.cancel_some.Lts as lts
-use Rattle.rules.proofs.Place.cancel.Reads as cancel-reads
 
--- src/lib.rt:328:9
 cancel-requires : tie.Need-cancel-requires
 cancel-requires c κs = let f = c .before .pre .1 (c .if1 .taken) in (f, omega (arith, f, c .before .pre .0 .rises))
 
--- src/lib.rt:328:9
 returns : tie.Need-returns
 returns c = rw (lt-ltb _ _ (c .before .if1 .taken)) (c .cancel .ensures)
 
--- src/lib.rt:323:1
 returns-2 : tie.Need-returns-2
 returns-2 c = rw (le-ltb _ _ (c .if1 .left)) refl
 

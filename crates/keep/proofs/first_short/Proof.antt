@@ -11,9 +11,6 @@ use mathlib.Core.Path.{_≡_, sym, _∙_}
 use borrow.Author.Needs.{needs}
 use Rattle.keep.proofs.first_short.Statement.{statement}
 use Rattle.keep.proofs.first_short.Tie as tie
-use Rattle.keep.proofs.first_short.Reads as reads
-use Rattle.keep.proofs.first_short.Lts as lts
-use Rattle.keep.proofs.is_short.Reads as is-short-reads
 
 abbrev Inv-loop : tie.InvT-loop
 Inv-loop held targets ticks products p₀ p = (p ≤ products) × (firstUpTo (shortBy held targets ticks) p ≡ Nobody)
@@ -21,56 +18,46 @@ Inv-loop held targets ticks products p₀ p = (p ≤ products) × (firstUpTo (sh
 abbrev μ-loop : tie.MeasureT-loop
 μ-loop held targets ticks products p₀ p = products - p
 
--- src/lib.rt:166:5
 loop-holds : tie.Need-loop-holds Inv-loop μ-loop
 loop-holds c = search needs
 
--- src/lib.rt:167:21
 mul-is-short : tie.Need-mul-is-short Inv-loop μ-loop
 mul-is-short c = search needs
 
--- src/lib.rt:167:21
 element-copy-out-is-short : tie.Need-element-copy-out-is-short Inv-loop μ-loop
 element-copy-out-is-short c = search needs
 
--- src/lib.rt:167:30
 mul-is-short-2 : tie.Need-mul-is-short-2 Inv-loop μ-loop
 mul-is-short-2 c = search needs
 
--- src/lib.rt:167:30
 element-copy-out-is-short-2 : tie.Need-element-copy-out-is-short-2 Inv-loop μ-loop
 element-copy-out-is-short-2 c = search needs
 
--- src/lib.rt:167:42
 element-copy-out-is-short-3 : tie.Need-element-copy-out-is-short-3 Inv-loop μ-loop
 element-copy-out-is-short-3 c = search needs
 
--- src/lib.rt:167:12
 is-short-requires : tie.Need-is-short-requires Inv-loop μ-loop
 is-short-requires c κs =
     let s = c .before .before .before .before .before in
     let v = c .before .before .before .before .loop in
     s .pre .1 (v .p) (omega (arith, c .before .before .before .loop-test .taken, s .pre .0))
 
--- src/lib.rt:168:13
 returns : tie.Need-returns Inv-loop μ-loop
 returns c =
     let a = c .before .before .before .before .before .before .before .args in
     let v = c .before .before .before .before .before .before .loop in
     let f = shortBy (now (a .held)) (now (a .targets)) (now (a .ticks)) in
     sym
-    (first-stays f (suc (v .p)) (v .p) (a .products) (first-here f (v .p) (v .inv .1) (sym (c .before .is-short .ensures) ∙ c .if1 .taken))
+    (first-stays f (suc (v .p)) (v .p) (a .products) (first-here f (v .p) (v .inv .1)
+    (sym (c .before .is-short .ensures) ∙ c .if1 .taken))
     (c .before .before .before .before .before .loop-test .taken))
 
--- src/lib.rt:170:9
 add-p : tie.Need-add-p Inv-loop μ-loop
 add-p c = search needs
 
--- src/lib.rt:166:5
 loop-less : tie.Need-loop-less Inv-loop μ-loop
 loop-less c = search needs
 
--- src/lib.rt:166:5
 loop-again : tie.Need-loop-again Inv-loop μ-loop
 loop-again c =
     let a = c .before .before .before .before .before .before .before .args in
@@ -80,7 +67,6 @@ loop-again c =
           (sym (c .before .is-short .ensures) ∙ c .if1 .left)),
     )
 
--- src/lib.rt:161:1
 returns-2 : tie.Need-returns-2 Inv-loop μ-loop
 returns-2 c = cc (le-antisymm (c .before .loop .inv .0) (c .loop-test .left))
 

@@ -8,10 +8,6 @@ use mathlib.Core.Path.{_≡_, subst}
 use borrow.Author.Needs.{needs}
 use Rattle.keep.proofs.highest.Statement.{statement}
 use Rattle.keep.proofs.highest.Tie as tie
-use Rattle.keep.proofs.highest.Reads as reads
-use Rattle.keep.proofs.highest.Lts as lts
-use Rattle.keep.proofs.Best.higher.Reads as higher-reads
-use Rattle.keep.proofs.Best.none.Reads as none-reads
 
 abbrev Inv-loop : tie.InvT-loop
 Inv-loop ranks b products best₀ p₀ best p = (p ≤ products) × (best ≡ noted (rankAt ranks b) (highestUpTo ranks b p))
@@ -19,49 +15,49 @@ Inv-loop ranks b products best₀ p₀ best p = (p ≤ products) × (best ≡ no
 abbrev μ-loop : tie.MeasureT-loop
 μ-loop ranks b products best₀ p₀ best p = products - p
 
--- src/lib.rt:284:9
 none-requires : tie.Need-none-requires Inv-loop μ-loop
 none-requires c κs = search needs
 
--- src/lib.rt:286:5
 loop-holds : tie.Need-loop-holds Inv-loop μ-loop
 loop-holds c = search needs
 
--- src/lib.rt:287:17
 mul-k : tie.Need-mul-k Inv-loop μ-loop
 mul-k c = search needs
 
--- src/lib.rt:287:17
 add-k : tie.Need-add-k Inv-loop μ-loop
 add-k c = search needs
 
--- src/lib.rt:288:20
 mul-rank : tie.Need-mul-rank Inv-loop μ-loop
 mul-rank c = search needs
 
--- src/lib.rt:288:20
 element-copy-out-rank : tie.Need-element-copy-out-rank Inv-loop μ-loop
 element-copy-out-rank c = search needs
 
--- src/lib.rt:289:9
 higher-requires : tie.Need-higher-requires Inv-loop μ-loop
 higher-requires c κs = search needs
 
--- src/lib.rt:290:9
 add-p : tie.Need-add-p Inv-loop μ-loop
 add-p c = search needs
 
--- src/lib.rt:286:5
 loop-less : tie.Need-loop-less Inv-loop μ-loop
 loop-less c = search needs
 
--- src/lib.rt:286:5
 loop-again : tie.Need-loop-again Inv-loop μ-loop
-loop-again c = let a = c .before .before .before .before .before .args in let v = c .before .before .before .loop in (search needs, rw add-one (highest-next (now (a .ranks)) (a .b) (v .p) (v .best) (c .higher .result) (v .inv .1) (c .higher .ensures)))
+loop-again c =
+    let a = c .before .before .before .before .before .args in
+    let v = c .before .before .before .loop in (
+      search needs,
+      rw add-one (highest-next (now (a .ranks)) (a .b) (v .p) (v .best) (c .higher .result) (v .inv .1)
+          (c .higher .ensures)),
+    )
 
--- src/lib.rt:280:1
 returns : tie.Need-returns Inv-loop μ-loop
-returns c = let a = c .before .before .before .args in let v = c .before .loop in highest-who (now (a .ranks)) (a .b) (a .products) (v .best) (subst (λ p. v .best ≡ noted (rankAt (now (a .ranks)) (a .b)) (highestUpTo (now (a .ranks)) (a .b) p)) (le-antisymm (v .inv .0) (c .loop-test .left)) (v .inv .1))
+returns c =
+    let a = c .before .before .before .args in
+    let v = c .before .loop in
+    highest-who (now (a .ranks)) (a .b) (a .products) (v .best)
+    (subst (λ p. v .best ≡ noted (rankAt (now (a .ranks)) (a .b)) (highestUpTo (now (a .ranks)) (a .b) p))
+    (le-antisymm (v .inv .0) (c .loop-test .left)) (v .inv .1))
 
 pub highest-spec : {M : Type 1} → statement M
 highest-spec =

@@ -4,33 +4,26 @@ use borrow.Author.Tests.{lt-ltb, le-ltb}
 use borrow.Author.Needs.{needs}
 use Rattle.keep.proofs.lost.Statement.{statement}
 use Rattle.keep.proofs.lost.Tie as tie
-use Rattle.keep.proofs.lost.Reads as reads
-use Rattle.keep.proofs.lost.Lts as lts
-use Rattle.keep.proofs.highest.Reads as highest-reads
 
--- src/lib.rt:311:9
 returns : tie.Need-returns
 returns c = rw (lt-ltb _ _ (c .if1 .taken)) refl
 
--- src/lib.rt:313:9
 highest-requires : tie.Need-highest-requires
 highest-requires c κs = search needs
 
--- src/lib.rt:314:18
 enum-known-who : tie.Need-enum-known-who
 enum-known-who c = search needs
 
--- src/lib.rt:315:9
 enum-told : tie.Need-enum-told
 enum-told c = search needs
 
--- src/lib.rt:315:9
 returns-2 : tie.Need-returns-2
-returns-2 c = rw (le-ltb _ _ (c .before .before .before .if1 .left)) (ap lossAt (sym (sym (c .before .before .highest .ensures) ∙ c .enum-told .given .1)))
+returns-2 c = rw (le-ltb _ _ (c .before .before .before .if1 .left))
+    (ap lossAt (sym (sym (c .before .before .highest .ensures) ∙ c .enum-told .given .1)))
 
--- src/lib.rt:302:1
 returns-3 : tie.Need-returns-3
-returns-3 c = rw (le-ltb _ _ (c .before .before .before .before .if1 .left)) (ap lossAt (sym (sym (c .before .before .before .highest .ensures) ∙ c .before .who .given .1)))
+returns-3 c = rw (le-ltb _ _ (c .before .before .before .before .if1 .left))
+    (ap lossAt (sym (sym (c .before .before .before .highest .ensures) ∙ c .before .who .given .1)))
 
 pub lost-spec : {M : Type 1} → statement M
 lost-spec =

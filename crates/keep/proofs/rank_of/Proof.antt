@@ -2,22 +2,16 @@ use borrow.Author.Tests.{lt-ltb, le-ltb}
 use borrow.Author.Needs.{needs}
 use Rattle.keep.proofs.rank_of.Statement.{statement}
 use Rattle.keep.proofs.rank_of.Tie as tie
-use Rattle.keep.proofs.rank_of.Reads as reads
-use Rattle.keep.proofs.rank_of.Lts as lts
 
--- src/lib.rt:261:16
 cast-result : tie.Need-cast-result
 cast-result c = search needs
 
--- src/lib.rt:261:16
 add-result : tie.Need-add-result
 add-result c = search needs
 
--- src/lib.rt:261:9
 returns : tie.Need-returns
 returns c = search (lt-ltb, le-ltb)
 
--- src/lib.rt:257:1
 returns-2 : tie.Need-returns-2
 returns-2 c = search (lt-ltb, le-ltb)
 

@@ -7,8 +7,6 @@ use mathlib.Core.Path.{_≡_, refl}
 use borrow.Author.Needs.{needs}
 use Rattle.keep.proofs.targets_of.Statement.{statement}
 use Rattle.keep.proofs.targets_of.Tie as tie
-use Rattle.keep.proofs.targets_of.Reads as reads
-use Rattle.keep.proofs.targets_of.Lts as lts
 
 abbrev Inv-loop : tie.InvT-loop
 Inv-loop t all₀ p₀ all p = (p ≤ 8) × ((length all ≡ 8) × ((q : ℕ) → q < p → getD all q 0 ≡ targetOf t q))
@@ -16,35 +14,27 @@ Inv-loop t all₀ p₀ all p = (p ≤ 8) × ((length all ≡ 8) × ((q : ℕ) �
 abbrev μ-loop : tie.MeasureT-loop
 μ-loop t all₀ p₀ all p = 8 - p
 
--- src/lib.rt:142:5
 loop-holds : tie.Need-loop-holds Inv-loop μ-loop
 loop-holds c = (search needs, (refl, λ q l. absurd (let z : ⊥ = omega arith in z)))
 
--- src/lib.rt:143:17
 mul-i : tie.Need-mul-i Inv-loop μ-loop
 mul-i c = search needs
 
--- src/lib.rt:143:17
 element-copy-out-i : tie.Need-element-copy-out-i Inv-loop μ-loop
 element-copy-out-i c = search needs
 
--- src/lib.rt:144:9
 mul-all : tie.Need-mul-all Inv-loop μ-loop
 mul-all c = search needs
 
--- src/lib.rt:144:9
 array-write-all : tie.Need-array-write-all Inv-loop μ-loop
 array-write-all c = search needs
 
--- src/lib.rt:145:9
 add-p : tie.Need-add-p Inv-loop μ-loop
 add-p c = search needs
 
--- src/lib.rt:142:5
 loop-less : tie.Need-loop-less Inv-loop μ-loop
 loop-less c = search needs
 
--- src/lib.rt:142:5
 loop-again : tie.Need-loop-again Inv-loop μ-loop
 loop-again c =
     let a = c .before .before .before .args in
@@ -57,7 +47,6 @@ loop-again c =
       ),
     )
 
--- src/lib.rt:137:1
 returns : tie.Need-returns Inv-loop μ-loop
 returns c = let v = c .before .loop in λ q l. v .inv .1 .1 q (omega (arith, c .loop-test .left))
 

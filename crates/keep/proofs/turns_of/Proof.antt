@@ -8,9 +8,6 @@ use mathlib.Core.Path.{_≡_, refl}
 use borrow.Author.Needs.{needs}
 use Rattle.keep.proofs.turns_of.Statement.{statement}
 use Rattle.keep.proofs.turns_of.Tie as tie
-use Rattle.keep.proofs.turns_of.Reads as reads
-use Rattle.keep.proofs.turns_of.Lts as lts
-use Rattle.keep.proofs.turn_of.Reads as turn-of-reads
 
 abbrev Inv-loop : tie.InvT-loop
 Inv-loop places all₀ k₀ all k = (k ≤ 256) × ((length all ≡ 256) × ((j : ℕ) → j < k → Timed (getD all j 0) (placeAt places j)))
@@ -18,45 +15,46 @@ Inv-loop places all₀ k₀ all k = (k ≤ 256) × ((length all ≡ 256) × ((j 
 abbrev μ-loop : tie.MeasureT-loop
 μ-loop places all₀ k₀ all k = 256 - k
 
--- src/lib.rt:199:5
 loop-holds : tie.Need-loop-holds Inv-loop μ-loop
 loop-holds c = (search needs, (length-replicate {A = ℕ} 256 0, λ j l. absurd (let z : ⊥ = omega arith in z)))
 
--- src/lib.rt:200:17
 mul-l : tie.Need-mul-l Inv-loop μ-loop
 mul-l c = search needs
 
--- src/lib.rt:200:17
 array-copy-out-l : tie.Need-array-copy-out-l Inv-loop μ-loop
 array-copy-out-l c = search needs
 
--- src/lib.rt:201:18
 turn-of-requires : tie.Need-turn-of-requires Inv-loop μ-loop
 turn-of-requires c κs = search needs
 
--- src/lib.rt:201:9
 mul-all : tie.Need-mul-all Inv-loop μ-loop
 mul-all c = search needs
 
--- src/lib.rt:201:9
 array-write-all : tie.Need-array-write-all Inv-loop μ-loop
 array-write-all c = search needs
 
--- src/lib.rt:202:9
 add-k : tie.Need-add-k Inv-loop μ-loop
 add-k c = search needs
 
--- src/lib.rt:199:5
 loop-less : tie.Need-loop-less Inv-loop μ-loop
 loop-less c = search needs
 
--- src/lib.rt:199:5
 loop-again : tie.Need-loop-again Inv-loop μ-loop
-loop-again c = let a = c .before .before .before .before .args in let v = c .before .before .before .loop in (search needs, (search needs, filled-next (λ j x. Timed x (placeAt (a .t1) j)) 0 (v .all) (v .k) (c .turn-of .result) (omega (arith, v .inv .1 .0, c .before .before .loop-test .taken)) (c .turn-of .ensures) (v .inv .1 .1)))
+loop-again c =
+    let a = c .before .before .before .before .args in
+    let v = c .before .before .before .loop in (
+      search needs,
+      (
+        search needs,
+        filled-next (λ j x. Timed x (placeAt (a .t1) j)) 0 (v .all) (v .k) (c .turn-of .result)
+            (omega (arith, v .inv .1 .0, c .before .before .loop-test .taken)) (c .turn-of .ensures) (v .inv .1 .1),
+      ),
+    )
 
--- src/lib.rt:194:1
 returns : tie.Need-returns Inv-loop μ-loop
-returns c = let v = c .before .loop in (v .inv .1 .0, λ j l. v .inv .1 .1 j (omega (arith, c .loop-test .left)))
+returns c =
+    let v = c .before .loop in
+    (v .inv .1 .0, λ j l. v .inv .1 .1 j (omega (arith, c .loop-test .left)))
 
 pub turns-of-spec : {M : Type 1} → statement M
 turns-of-spec =
