@@ -22,11 +22,11 @@ pub fn open(s: &mut [u8], given: Settings) -> Answer
     if !state::is_zero(s) {
         return Answer::Refused(17);
     }
-    if !settings::settings_fit(given) {
+    if !opening::settings_fit(given) {
         return Answer::Refused(15);
     }
-    let terms = settings::terms_of(given);
-    state::store(settings::opened(terms), s);
+    let terms = opening::terms_of(given);
+    state::store(opening::opened(terms), s);
     Answer::Done
 }
 

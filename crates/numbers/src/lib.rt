@@ -58,7 +58,7 @@ pub fn calculate_number(s: &[u8], draw: &[u8]) -> u8
     if a.phase != 1 {
         return 3;
     }
-    if settings::draw_fits(draw, a.terms.bidders as usize) {
+    if draw::draw_fits(draw, a.terms.bidders as usize) {
         return 0;
     }
     14

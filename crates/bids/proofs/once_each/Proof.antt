@@ -6,7 +6,7 @@ use borrow.Author.Tests.{eq-eqb, ne-eqb}
 use lib.Dec.{eqb}
 use Rattle.rules.specs.Bid.{numbered, recordOf, onProduct}
 use Rattle.rules.specs.Count.{allUpTo}
-use Rattle.bids.proofs.All.{fails, goes-on, passes}
+use Rattle.rules.proofs.All.{fails, goes-on, passes}
 use Rattle.bids.proofs.once_each.Statement.{statement}
 use Rattle.bids.proofs.once_each.Tie as tie
 

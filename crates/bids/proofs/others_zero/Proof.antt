@@ -5,7 +5,7 @@ use borrow.Author.Needs.{needs}
 use Rattle.rules.specs.Bid.{recordOf, onProduct}
 use Rattle.rules.specs.Count.{allUpTo}
 use Rattle.bidline.specs.Lines.{mayNumber}
-use Rattle.bids.proofs.All.{fails, goes-on, passes}
+use Rattle.rules.proofs.All.{fails, goes-on, passes}
 use Rattle.bids.proofs.others_zero.Statement.{statement}
 use Rattle.bids.proofs.others_zero.Tie as tie
 

@@ -6,7 +6,7 @@ use Rattle.rules.specs.Bid.{recordOf, onProduct}
 use Rattle.rules.specs.Count.{allUpTo}
 use Rattle.rules.specs.Settings.{capOf}
 use Rattle.bidline.specs.Lines.{withinCap}
-use Rattle.bids.proofs.All.{fails, goes-on, passes}
+use Rattle.rules.proofs.All.{fails, goes-on, passes}
 use Rattle.bids.proofs.over_cap.Statement.{statement}
 use Rattle.bids.proofs.over_cap.Tie as tie
 

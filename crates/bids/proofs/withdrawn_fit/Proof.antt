@@ -5,7 +5,7 @@ use borrow.Author.Needs.{needs}
 use Rattle.rules.specs.Bid.{recordOf, onProduct}
 use Rattle.rules.specs.Count.{allUpTo}
 use Rattle.bidline.specs.Lines.{mayWithdraw}
-use Rattle.bids.proofs.All.{fails, goes-on, passes}
+use Rattle.rules.proofs.All.{fails, goes-on, passes}
 use Rattle.bids.proofs.withdrawn_fit.Statement.{statement}
 use Rattle.bids.proofs.withdrawn_fit.Tie as tie
 

@@ -5,7 +5,7 @@ use borrow.Author.Needs.{needs}
 use Rattle.rules.specs.Bid.{priceAt, beforeAt, onProduct}
 use Rattle.rules.specs.Count.{allUpTo}
 use Rattle.bidline.specs.Lines.{exitFits}
-use Rattle.bids.proofs.All.{fails, goes-on, passes}
+use Rattle.rules.proofs.All.{fails, goes-on, passes}
 use Rattle.bids.proofs.wrong_exit.Statement.{statement}
 use Rattle.bids.proofs.wrong_exit.Tie as tie
 

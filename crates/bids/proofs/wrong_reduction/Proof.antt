@@ -6,7 +6,7 @@ use Rattle.rules.specs.Bid.{recordOf, onProduct}
 use Rattle.rules.specs.Count.{allUpTo}
 use Rattle.rules.specs.Held.{ticked}
 use Rattle.bidline.specs.Lines.{mayReduce}
-use Rattle.bids.proofs.All.{fails, goes-on, passes}
+use Rattle.rules.proofs.All.{fails, goes-on, passes}
 use Rattle.bids.proofs.wrong_reduction.Statement.{statement}
 use Rattle.bids.proofs.wrong_reduction.Tie as tie
 

@@ -1,5 +1,5 @@
 use borrow.Author.Needs.{needs}
-use Rattle.settings.proofs.Tests.{no, yes}
+use Rattle.rules.proofs.Tests.{no, yes}
 use Rattle.settings.proofs.counts_within.Statement.{statement}
 use Rattle.settings.proofs.counts_within.Tie as tie
 

@@ -1,5 +1,6 @@
 use borrow.Author.Needs.{needs}
-use Rattle.settings.proofs.Tests.{no, yes, products-few}
+use Rattle.rules.proofs.Tests.{no, yes}
+use Rattle.settings.proofs.Counts.{products-few}
 use Rattle.settings.proofs.within_limits.Statement.{statement}
 use Rattle.settings.proofs.within_limits.Tie as tie
 

@@ -1,4 +1,4 @@
-use Rattle.settings.proofs.Tests.{no, yes}
+use Rattle.rules.proofs.Tests.{no, yes}
 use borrow.Author.Needs.{needs}
 use Rattle.standing.proofs.body_stands.Statement.{statement}
 use Rattle.standing.proofs.body_stands.Tie as tie

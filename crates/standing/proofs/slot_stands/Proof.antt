@@ -1,4 +1,4 @@
-use Rattle.settings.proofs.Tests.{no, yes}
+use Rattle.rules.proofs.Tests.{no, yes}
 use borrow.Author.Tests.{lt-ltb, le-ltb, eq-eqb, ne-eqb}
 use borrow.Author.Needs.{needs}
 use Rattle.standing.proofs.slot_stands.Statement.{statement}

@@ -3,7 +3,7 @@ use Prim.Native.Nat.{_≤_, _-_}
 use mathlib.Core.Path.{_≡_, sym}
 use mathlib.Core.Bool.{true}
 use Rattle.rules.specs.Count.{allUpTo}
-use Rattle.bids.proofs.All.{fails, goes-on, passes}
+use Rattle.rules.proofs.All.{fails, goes-on, passes}
 use borrow.Author.Needs.{needs}
 use Rattle.standing.proofs.slots_stand.Statement.{statement}
 use Rattle.standing.proofs.slots_stand.Tie as tie

@@ -1,4 +1,4 @@
-use Rattle.settings.proofs.Tests.{no, yes}
+use Rattle.rules.proofs.Tests.{no, yes}
 use Rattle.rules.proofs.Standing.{limits-take}
 use Rattle.rules.specs.Standing.{stands}
 use borrow.Author.Tests.{le-leb, lt-leb}

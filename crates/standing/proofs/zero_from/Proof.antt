@@ -5,7 +5,7 @@ use Rattle.rules.specs.Bid.{onProduct}
 use Prim.Native.Nat.{_≤_, _-_}
 use mathlib.Core.Path.{_≡_, sym}
 use Rattle.rules.specs.Count.{allUpTo}
-use Rattle.bids.proofs.All.{fails, goes-on, passes}
+use Rattle.rules.proofs.All.{fails, goes-on, passes}
 use borrow.Author.Needs.{needs}
 use Rattle.standing.proofs.zero_from.Statement.{statement}
 use Rattle.standing.proofs.zero_from.Tie as tie
