@@ -1,4 +1,4 @@
 pub mod Laws
-pub mod Numbers
+pub mod Searches
 pub mod Turn
 pub mod Steps

@@ -21,7 +21,7 @@ use Rattle.keep.specs.Room.{Fits, isOne}
 use Rattle.keep.specs.Search.{nextUpTo, highestUpTo}
 use Rattle.keep.specs.Step.{Booked, Each, Timed, Ranked, Numbered, keptOne, lossOf, lossAt, lossBy, cancelSome}
 use Rattle.keep.proofs.Laws.{retain-booked, deny-booked, cancel-booked, held-at, held-here}
-use Rattle.keep.proofs.Numbers.{each-set, each-keep, Withdrawal, Switch, next-withdrawal, next-switch, highest-same}
+use Rattle.keep.proofs.Searches.{each-set, each-keep, Withdrawal, Switch, next-withdrawal, next-switch, highest-same}
 use Rattle.keep.proofs.Turn.{Turn, Loop, aim, firstShort, turn-product, loop-step}
 
 -- ---- the increase cancelled

@@ -21,7 +21,7 @@ use Rattle.keep.specs.declared.Next.{Next}
 use Rattle.keep.specs.Room.{Drawn, isOne}
 use Rattle.keep.specs.Search.{nextUpTo}
 use Rattle.keep.specs.Step.{Booked, Targets, shortBy, Numbered}
-use Rattle.keep.proofs.Numbers.{next-nothing}
+use Rattle.keep.proofs.Searches.{next-nothing}
 
 -- ---- the same test, number by number, finds the same
 

@@ -12,7 +12,7 @@ ghost use Rattle.rules.specs.Keep.{keptAll};
 ghost use Rattle.rules.specs.Round.{drawn};
 ghost use Rattle.keep.specs.Search.{nobody, higherOf, sooner, nextUpTo, highestUpTo};
 ghost use Rattle.keep.specs.Room.{Fits, Room, Drawn, isOne};
-ghost use Rattle.keep.specs.Step.{Holds, Targets, shortBy, Each, Timed, Ranked, rankOf, keptOne, lossBy, cancelSome};
+ghost use Rattle.keep.specs.Step.{Holds, Targets, shortBy, Timed, rankOf, Numbered, keptOne, lossBy, cancelSome};
 use rules::Kept;
 use rules::Pick;
 use rules::Place;
@@ -192,19 +192,6 @@ fn turn_of(l: Place) -> u64
     NOTHING
 }
 
-fn turns_of(places: [Place; 256]) -> [u64; 256]
-    ensures { λ r. ⌜ (length r ≡ 256) × Each Timed r places ⌝ }
-{
-    let mut all = [0u64; 256];
-    let mut k: usize = 0;
-    while k < 256 {
-        let l = places[k];
-        all[k] = turn_of(l);
-        k += 1;
-    }
-    all
-}
-
 // The lowest turn so far, and where in the draw its bidder stands.
 struct Next {
     pub at: usize,
@@ -264,42 +251,14 @@ fn rank_of(l: Place) -> u32
     0
 }
 
-fn ranks_of(places: [Place; 256]) -> [u32; 256]
-    ensures { λ r. ⌜ (length r ≡ 256) × Each Ranked r places ⌝ }
-{
-    let mut all = [0u32; 256];
-    let mut k: usize = 0;
-    while k < 256 {
-        let l = places[k];
-        all[k] = rank_of(l);
-        k += 1;
-    }
-    all
-}
-
-// "its increased product with the largest priority number that still has an increase"
-fn highest(ranks: &[u32; 256], b: usize, products: usize) -> Pick
-    requires { ⌜ (b < 32) × (products ≤ 8) ⌝ }
-    ensures { λ r. ⌜ r ≡ highestUpTo (now (ranks .entry)) b products ⌝ }
-{
-    let mut best = Best::none();
-    let mut p: usize = 0;
-    while p < products {
-        let k = b * 8 + p;
-        let rank = ranks[k];
-        best = best.higher(p, 0 < rank, rank);
-        p += 1;
-    }
-    best.who
-}
-
 // One increase of a product, or none.
 struct Loss {
     pub product: usize,
     pub count: u32,
 }
 
-// "A denied switch cancels one increase of that bidder"; a retained withdrawal cancels none.
+// "A denied switch cancels one increase of that bidder: from its increased product with the largest priority number that still has an
+// increase." A retained withdrawal cancels none.
 fn lost(turn: u64, ranks: &[u32; 256], b: usize, products: usize) -> Loss
     requires { ⌜ (b < 32) × (products ≤ 8) ⌝ }
     ensures { λ r. ⌜ r ≡ lossBy turn (highestUpTo (now (ranks .entry)) b products) ⌝ }
@@ -311,7 +270,15 @@ fn lost(turn: u64, ranks: &[u32; 256], b: usize, products: usize) -> Loss
     if turn < SWITCH {
         return none;
     }
-    let who = highest(ranks, b, products);
+    let mut best = Best::none();
+    let mut p: usize = 0;
+    while p < products {
+        let k = b * 8 + p;
+        let rank = ranks[k];
+        best = best.higher(p, 0 < rank, rank);
+        p += 1;
+    }
+    let who = best.who;
     let Pick::At(c) = who else {
         return none;
     };
@@ -333,6 +300,27 @@ fn cancel_some(l: Place, count: u32) -> Place
 
 // ---- The whole
 
+// The numbers that go with the places.
+struct Numbers {
+    pub turns: [u64; 256],
+    pub ranks: [u32; 256],
+}
+
+fn numbers_of(places: [Place; 256]) -> Numbers
+    ensures { λ r. ⌜ Numbered places (r .turns) (r .ranks) ⌝ }
+{
+    let mut turns = [0u64; 256];
+    let mut ranks = [0u32; 256];
+    let mut k: usize = 0;
+    while k < 256 {
+        let l = places[k];
+        turns[k] = turn_of(l);
+        ranks[k] = rank_of(l);
+        k += 1;
+    }
+    Numbers { turns, ranks }
+}
+
 // The first short product is looked for again after every tranche kept. Beside the places stand the numbers that the searches look
 // at, which are lent to them: a copy of the places for each tranche would be most of the work.
 pub fn keep_all(places: [Place; 256], t: Terms, ticks: [u8; 8], order: &[u8]) -> Kept
@@ -344,8 +332,9 @@ pub fn keep_all(places: [Place; 256], t: Terms, ticks: [u8; 8], order: &[u8]) ->
     let targets = targets_of(t);
     let mut work = places;
     let mut held = held_all(places, n);
-    let mut turns = turns_of(places);
-    let mut ranks = ranks_of(places);
+    let numbers = numbers_of(places);
+    let mut turns = numbers.turns;
+    let mut ranks = numbers.ranks;
     let mut count: u32 = 0;
     let mut fuel = left(places, n);
     while 0 < fuel {

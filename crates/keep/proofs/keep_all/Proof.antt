@@ -19,13 +19,13 @@ abbrev μ-loop : tie.MeasureT-loop
 -- where the loop is
 abbrev loop : tie.At-loop Inv-loop μ-loop → Loop
 loop c =
-    let s = c .before .before .before .before .before .before .before .before .before in
+    let s = c .before .before .before .before .before .before .before .before .before .before in
     let a = s .args in
     let v = c .loop in
     record {
       m = a .t .products;
       n = a .t .bidders;
-      targets = c .before .before .before .before .before .targets-of .result;
+      targets = c .before .before .before .before .before .before .targets-of .result;
       ticks = a .t3;
       order = now (a .order);
       ps₀ = a .places;
@@ -81,27 +81,22 @@ targets-of-requires c κs = search needs
 held-all-requires : tie.Need-held-all-requires Inv-loop μ-loop
 held-all-requires c κs = c .before .before .before .before .pre .1 .0 .few
 
-turns-of-requires : tie.Need-turns-of-requires Inv-loop μ-loop
-turns-of-requires c κs = search needs
-
-ranks-of-requires : tie.Need-ranks-of-requires Inv-loop μ-loop
-ranks-of-requires c κs = search needs
+numbers-of-requires : tie.Need-numbers-of-requires Inv-loop μ-loop
+numbers-of-requires c κs = search needs
 
 left-requires : tie.Need-left-requires Inv-loop μ-loop
-left-requires c κs = c .before .before .before .before .before .before .before .pre .1 .0 .few
+left-requires c κs = c .before .before .before .before .before .before .before .before .pre .1 .0 .few
 
 loop-holds : tie.Need-loop-holds Inv-loop μ-loop
 loop-holds c =
-    let s = c .before .before .before .before .before .before .before .before in
+    let s = c .before .before .before .before .before .before .before .before .before in
     let a = s .args in
-    let h = c .before .before .before .held-all in
-    let t = c .before .before .turns-of in
-    let r = c .before .ranks-of in
-    turn-start (a .t .products) (a .t .bidders) (c .before .before .before .before .targets-of .result) (a .t3) (now (a .order))
-    (a .places)
-    (c .left .result) (h .result) (t .result) (r .result)
-    (record { room = s .pre .1 .1; few = s .pre .1 .0 .few; long = h .ensures .0; holds = h .ensures .1 })
-    (record { turns-long = t .ensures .0; timed = t .ensures .1; ranks-long = r .ensures .0; ranked = r .ensures .1 })
+    let h = c .before .before .before .before .held-all in
+    let x = c .before .before .before .numbers-of in
+    turn-start (a .t .products) (a .t .bidders) (c .before .before .before .before .before .targets-of .result) (a .t3)
+    (now (a .order)) (a .places)
+    (c .left .result) (h .result) (x .result .turns) (x .result .ranks)
+    (record { room = s .pre .1 .1; few = s .pre .1 .0 .few; long = h .ensures .0; holds = h .ensures .1 }) (x .ensures)
     (c .left .ensures .1)
 
 first-short-requires : tie.Need-first-short-requires Inv-loop μ-loop
@@ -119,10 +114,9 @@ returns : tie.Need-returns Inv-loop μ-loop
 returns c =
     let l = c .before .before .before .before .before .before .before in
     let w = loop l in
-    let g = l .before .before .before .before .before .targets-of in (
+    let g = l .before .before .before .before .before .before .targets-of in (
       turn-none w (first-same w (c .before .before .first-short .result) (c .before .before .first-short .ensures) ∙
-          c .enum-told .given .1) ∙ turn-all w (l .before .before .before .before .before .before .before .before .before .args .t)
-          (g .ensures) (l .before .left .ensures .0),
+          c .enum-told .given .1) ∙ turn-all w (l .before .before .before .before .before .before .before .before .before .before .args .t) (g .ensures) (l .before .left .ensures .0),
       w .turn .book .room,
     )
 
@@ -138,10 +132,10 @@ returns-2 : tie.Need-returns-2 Inv-loop μ-loop
 returns-2 c =
     let l = c .before .before .before .before .before .before .before .before .before .before .before .before in
     let w = loop l in
-    let g = l .before .before .before .before .before .targets-of in (
+    let g = l .before .before .before .before .before .before .targets-of in (
       turn-idle w (c .before .before .before .before .before .q .given .0 .0) (shorts (c .before .before .before .before))
           (c .before .before .next-turn .result) (c .before .before .next-turn .ensures) (c .if1 .taken) ∙ turn-all w
-          (l .before .before .before .before .before .before .before .before .before .args .t) (g .ensures)
+          (l .before .before .before .before .before .before .before .before .before .before .args .t) (g .ensures)
           (l .before .left .ensures .0),
       w .turn .book .room,
     )
@@ -230,7 +224,7 @@ array-write-held c =
 lost-requires : tie.Need-lost-requires Inv-loop μ-loop
 lost-requires c κs =
     let h = step-here (step (c .before .before .before .before)) in
-    (omega arith, c .before .before .before .before .before .before .before .before .before .before .before .before .before .before .before .before .before .before .before .before .before .before .before .before .before .before .pre .0)
+    (omega arith, c .before .before .before .before .before .before .before .before .before .before .before .before .before .before .before .before .before .before .before .before .before .before .before .before .before .before .before .pre .0)
 
 mul-at : tie.Need-mul-at Inv-loop μ-loop
 mul-at c =
@@ -339,8 +333,8 @@ returns-3 : tie.Need-returns-3 Inv-loop μ-loop
 returns-3 c =
     let l = c .before in
     let w = loop l in
-    let g = l .before .before .before .before .before .targets-of in
-    (turn-out w (c .loop-test .left) ∙ turn-all w (l .before .before .before .before .before .before .before .before .before .args .t) (g .ensures) (l .before .left .ensures .0), w .turn .book .room)
+    let g = l .before .before .before .before .before .before .targets-of in
+    (turn-out w (c .loop-test .left) ∙ turn-all w (l .before .before .before .before .before .before .before .before .before .before .args .t) (g .ensures) (l .before .left .ensures .0), w .turn .book .room)
 
 pub keep-all-spec : {M : Type 1} → statement M
 keep-all-spec =
@@ -352,8 +346,7 @@ keep-all-spec =
     cast-n
     targets-of-requires
     held-all-requires
-    turns-of-requires
-    ranks-of-requires
+    numbers-of-requires
     left-requires
     loop-holds
     first-short-requires
