@@ -17,11 +17,11 @@ use Rattle.rules.specs.Accept.{column, every, heldOf, leftOf}
 use Rattle.rules.specs.Keep.{keepMover, keepBy, short, keepStep, kept, whileShort, keepLoop, keptAll}
 use Rattle.rules.specs.Round.{drawn}
 use Rattle.rules.proofs.Sums.{best-found}
-use Rattle.keep.specs.declared.Next.{Next}
-use Rattle.keep.specs.Room.{Drawn, isOne}
-use Rattle.keep.specs.Search.{nextUpTo}
-use Rattle.keep.specs.Step.{Booked, Targets, shortBy, Numbered}
-use Rattle.keep.proofs.Searches.{next-nothing}
+use Rattle.search.specs.declared.Next.{Next}
+use Rattle.search.specs.Room.{Drawn, isOne}
+use Rattle.search.specs.Search.{nextUpTo}
+use Rattle.search.specs.Step.{Booked, Targets, shortBy, Numbered}
+use Rattle.search.proofs.Searches.{next-nothing}
 
 -- ---- the same test, number by number, finds the same
 

@@ -17,10 +17,10 @@ use Rattle.rules.specs.Held.{deniedIn, retainedIn, exitIn}
 use Rattle.rules.specs.Accept.{nowhere, placeAt, changed, rowOf, riseOf, deem, outbidSwitch, outbidWithdrawal}
 use Rattle.rules.specs.Outbid.{deemIf, deemedUpTo, outbid, freed, deniedOne, retainedOne, outbidRetained, outbidBy}
 use Rattle.rules.proofs.Sums.{sum-ext, sum-one, best-found, first-stays, first-here, first-not}
-use Rattle.keep.specs.declared.Best.{Best}
-use Rattle.keep.specs.Search.{noted, higherOf}
-use Rattle.keep.specs.Room.{Fits, Room}
-use Rattle.keep.proofs.Laws.{higher-next, noted-who, room-set}
+use Rattle.search.specs.declared.Best.{Best}
+use Rattle.search.specs.Search.{noted, higherOf}
+use Rattle.search.specs.Room.{Fits, Room}
+use Rattle.search.proofs.Laws.{higher-next, noted-who, room-set}
 use Rattle.outbid.specs.Loss.{deniedOf, freeAt, Free, Lost}
 
 -- ---- step 3

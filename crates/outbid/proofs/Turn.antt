@@ -17,7 +17,7 @@ use Rattle.rules.specs.Accept.{placeAt, every, keptOf}
 use Rattle.rules.specs.Outbid.{outbid, whileOver, outbidStep, over, outbidLoop, outbidAll}
 use Rattle.rules.specs.Round.{drawn}
 use Rattle.rules.proofs.Sums.{best-found}
-use Rattle.keep.specs.Room.{Room, isOne}
+use Rattle.search.specs.Room.{Room, isOne}
 use Rattle.outbid.specs.declared.Loss.{Loss}
 use Rattle.outbid.specs.Loss.{deniedOf, Free, paid, Lost}
 

@@ -12,14 +12,14 @@ ghost use Rattle.rules.specs.Held.{goingIn, deniedIn, standing, above};
 ghost use Rattle.rules.specs.Accept.{every, keptOf};
 ghost use Rattle.rules.specs.Outbid.{deemIf, deemedUpTo, deniedOne, over, outbidAll};
 ghost use Rattle.rules.specs.Round.{drawn};
-ghost use Rattle.keep.specs.Room.{Room, Drawn, isOne};
+ghost use Rattle.search.specs.Room.{Room, Drawn, isOne};
 ghost use Rattle.outbid.specs.Loss.{Lost};
-use keep::Best;
 use rules::Outbid;
 use rules::Pick;
 use rules::Place;
 use rules::Terms;
 use rules::Tranches;
+use search::Best;
 
 // ---- Step 3
 
@@ -63,7 +63,7 @@ fn is_over(held: u32, kept: u32, target: u16, tick: u8) -> bool
     if tick == 1 {
         return false;
     }
-    if keep::is_above(keep::standing_of(held, target)) {
+    if search::is_above(search::standing_of(held, target)) {
         return 0 < kept;
     }
     false
@@ -114,7 +114,7 @@ fn lose_retained(places: [Place; 256], order: &[u8], p: usize, bidders: usize) -
     let mut best = Best::none();
     let mut i: usize = 0;
     while i < bidders {
-        let b = keep::bidder_at(order, i, bidders);
+        let b = search::bidder_at(order, i, bidders);
         let k = b * 8 + p;
         let l = places[k];
         let exit = l.holds.retained.exit;
@@ -132,7 +132,7 @@ fn lose_retained(places: [Place; 256], order: &[u8], p: usize, bidders: usize) -
             more: 0,
         };
     };
-    let b = keep::bidder_at(order, j, bidders);
+    let b = search::bidder_at(order, j, bidders);
     let at = b * 8 + p;
     let l = places[at];
     let place = l.outbid_withdrawal();
@@ -154,7 +154,7 @@ fn lose(places: [Place; 256], order: &[u8], p: usize, bidders: usize) -> Loss
 {
     let mut i: usize = 0;
     while i < bidders {
-        let b = keep::bidder_at(order, i, bidders);
+        let b = search::bidder_at(order, i, bidders);
         let at = b * 8 + p;
         let l = places[at];
         if 0 < l.holds.denied.0 {

@@ -60,7 +60,7 @@ pub fn next_price(t: Terms, standing: i32, target: u16, price: u32) -> u32
     requires { ⌜ t .rows ≤ 8 ⌝ }
     ensures { λ r. ⌜ r ≡ nextPrice t standing target price ⌝ }
 {
-    if keep::is_above(standing) {
+    if search::is_above(standing) {
         let by = decrement(t, percentage(surplus(standing), target));
         return Price::of(t.unit, price).fall(by).amount();
     }
@@ -71,7 +71,7 @@ pub fn next_price(t: Terms, standing: i32, target: u16, price: u32) -> u32
 pub fn next_before(standing: i32, price: u32, before: u32) -> u32
     ensures { λ r. ⌜ r ≡ nextBefore standing price before ⌝ }
 {
-    if keep::is_above(standing) {
+    if search::is_above(standing) {
         return price;
     }
     before

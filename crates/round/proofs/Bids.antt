@@ -20,7 +20,7 @@ use Rattle.rules.specs.Accept.{nowhere, placeAt, accepted, acceptedAll}
 use Rattle.rules.specs.Round.{drawn, drawFits}
 use Rattle.rules.proofs.Sums.{and-left, and-right}
 use Rattle.rules.proofs.Lists.{all-take, list-at, list-long}
-use Rattle.keep.specs.Room.{Fits, Room, Drawn, isOne}
+use Rattle.search.specs.Room.{Fits, Room, Drawn, isOne}
 use Rattle.round.specs.Ready.{Small, Ticks}
 
 whole : (k : ℕ) → k ≡ place (k / 8) (k % 8)

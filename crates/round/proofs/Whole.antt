@@ -25,7 +25,7 @@ use Rattle.rules.specs.Outbid.{deemedUpTo, outbid, outbidAll}
 use Rattle.rules.specs.Price.{nextPrice, nextBefore}
 use Rattle.rules.specs.Round.{drawn, afterStep2, afterStep4, afterKept, counted, atRest, onward, stops, settled, calculated}
 use Rattle.held.specs.Counts.{Counts}
-use Rattle.keep.specs.Room.{isOne}
+use Rattle.search.specs.Room.{isOne}
 use Rattle.round.specs.Ready.{Ticks}
 use Rattle.round.proofs.Same.{deemed-same, keep-same, outbid-same}
 

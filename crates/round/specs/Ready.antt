@@ -10,7 +10,7 @@ use Rattle.rules.specs.Held.{goingIn, deniedIn, retainedIn, recordAt, ticked}
 use Rattle.rules.specs.Bid.{bidIn, withdrawnIn}
 use Rattle.rules.specs.Round.{drawFits}
 use Rattle.held.specs.Counts.{Counts}
-use Rattle.keep.specs.Room.{isOne}
+use Rattle.search.specs.Room.{isOne}
 
 -- no sum of a place's counts can pass its 16 bits
 pub record Small (a : Auction) : Type 0 where

@@ -13,7 +13,7 @@ use Rattle.rules.specs.Outbid.{over}
 use Rattle.rules.specs.Settings.{targetOf}
 use Rattle.rules.specs.declared.Pick.the-variants.{Nobody}
 use Rattle.rules.proofs.Sums.{first-stays, first-here, first-not}
-use Rattle.keep.specs.Room.{isOne}
+use Rattle.search.specs.Room.{isOne}
 use Rattle.outbid.proofs.first_over.Statement.{statement}
 use Rattle.outbid.proofs.first_over.Tie as tie
 

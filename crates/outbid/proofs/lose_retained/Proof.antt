@@ -10,7 +10,7 @@ use Rattle.rules.specs.Held.{retainedIn}
 use Rattle.rules.specs.Outbid.{retainedOne}
 use Rattle.rules.specs.Round.{drawn}
 use Rattle.rules.specs.declared.Pick.the-variants.{At}
-use Rattle.keep.specs.Search.{noted}
+use Rattle.search.specs.Search.{noted}
 use Rattle.outbid.proofs.Laws.{exits, retained-next, retained-who, retained-fits, lost-none, lost-retained}
 use Rattle.outbid.proofs.lose_retained.Statement.{statement}
 use Rattle.outbid.proofs.lose_retained.Tie as tie

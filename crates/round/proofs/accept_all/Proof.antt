@@ -11,8 +11,8 @@ use Rattle.rules.specs.Bid.{recordOf, beforeAt, defaultLine, bidOn}
 use Rattle.rules.specs.Card.{noLine}
 use Rattle.rules.specs.Held.{recordAt}
 use Rattle.rules.proofs.Lists.{list-is}
-use Rattle.keep.proofs.Laws.{filled-next}
-use Rattle.keep.specs.Room.{isOne}
+use Rattle.search.proofs.Laws.{filled-next}
+use Rattle.search.specs.Room.{isOne}
 use Rattle.round.proofs.Bids.{accepted-here}
 use Rattle.round.proofs.accept_all.Statement.{statement}
 use Rattle.round.proofs.accept_all.Tie as tie

@@ -1,7 +1,7 @@
 use mathlib.Core.Path.{sym, subst}
 use borrow.Author.Needs.{needs}
 use denote.Ref.{now}
-use Rattle.keep.specs.Room.{Room}
+use Rattle.search.specs.Room.{Room}
 use Rattle.round.proofs.Bids.{room-accepted, drawn-all}
 use Rattle.round.proofs.Whole.{calculated-is}
 use Rattle.round.proofs.calculate.Statement.{statement}

@@ -7,7 +7,7 @@ use Rattle.rules.specs.Bid.{priceAt, beforeAt}
 use Rattle.rules.specs.Held.{standingOf}
 use Rattle.rules.specs.Price.{nextBefore}
 use Rattle.rules.proofs.Lists.{list-is}
-use Rattle.keep.proofs.Laws.{filled-next}
+use Rattle.search.proofs.Laws.{filled-next}
 use Rattle.round.proofs.next_befores.Statement.{statement}
 use Rattle.round.proofs.next_befores.Tie as tie
 

@@ -8,7 +8,7 @@ use Rattle.rules.specs.Held.{standingOf}
 use Rattle.rules.specs.Price.{nextPrice}
 use Rattle.rules.specs.Settings.{targetOf}
 use Rattle.rules.proofs.Lists.{list-is}
-use Rattle.keep.proofs.Laws.{filled-next}
+use Rattle.search.proofs.Laws.{filled-next}
 use Rattle.round.proofs.next_prices.Statement.{statement}
 use Rattle.round.proofs.next_prices.Tie as tie
 

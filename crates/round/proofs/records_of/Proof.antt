@@ -7,7 +7,7 @@ use lib.ListN.{length}
 use Rattle.rules.specs.Accept.{placeAt}
 use Rattle.rules.specs.Held.{nothing, recordAt}
 use Rattle.rules.proofs.Lists.{list-is}
-use Rattle.keep.proofs.Laws.{filled-next}
+use Rattle.search.proofs.Laws.{filled-next}
 use Rattle.round.proofs.records_of.Statement.{statement}
 use Rattle.round.proofs.records_of.Tie as tie
 

@@ -5,7 +5,7 @@ use borrow.Author.Needs.{needs}
 use lib.Dec.{eqb}
 use lib.ListN.{getD, length}
 use Rattle.rules.specs.Held.{ticked}
-use Rattle.keep.proofs.Laws.{filled-next}
+use Rattle.search.proofs.Laws.{filled-next}
 use Rattle.round.proofs.ticks_of.Statement.{statement}
 use Rattle.round.proofs.ticks_of.Tie as tie
 
