@@ -1,4 +1,5 @@
 // The commands: a line, answered. What is typed is read by `asked`, the console's calls do the work, `told` writes their answers.
+ghost use Rattle.boxed.specs.Called.{Called};
 pub use boxed::Kind;
 use check::same;
 use say::line as say_line;
@@ -93,7 +94,9 @@ fn help(line: &[u8], c: Cursor) {
 }
 
 // Answers a line. Nothing is said to an empty one, or to one that begins with #.
-pub fn answer(line: &[u8], kind: Kind, path: &[u8], state: &mut [u8; 3333]) {
+pub fn answer(line: &[u8], kind: Kind, path: &[u8], state: &mut [u8; 3333])
+    ensures { λ _. ⌜ Called (now (state .entry)) (now (state .exit)) ⌝ }
+{
     let w = word(line, Cursor { at: 0 });
     let a = w.from;
     let e = w.to;

@@ -1,4 +1,6 @@
 // Where the state lives, and what is done with a state that a call has changed.
+ghost use mathlib.Core.Bool.{cond};
+ghost use mathlib.Core.Path.{_≡_};
 use say::line;
 use store::Saved;
 
@@ -38,7 +40,9 @@ fn saved(path: &[u8], work: &[u8; 3333]) -> bool {
 }
 
 // Saves a changed state where there is a box file, and keeps it only then: what is in memory is what is in the file.
-pub fn keep(kind: Kind, path: &[u8], state: &mut [u8; 3333], work: [u8; 3333]) -> bool {
+pub fn keep(kind: Kind, path: &[u8], state: &mut [u8; 3333], work: [u8; 3333]) -> bool
+    ensures { λ r. ⌜ now (state .exit) ≡ cond r work (now (state .entry)) ⌝ }
+{
     match kind {
         Kind::Wrong => return false,
         Kind::Loose => {}

@@ -1,4 +1,5 @@
-// The calls on an auction. A call that changes the state is made on a copy of it.
+// The calls on an auction. A call that changes the state is made on a copy of it: a line leaves the state as it was, or as one call does.
+ghost use Rattle.boxed.specs.Called.{Called};
 use asked::One;
 use asked::draw_of;
 use asked::ends;
@@ -25,13 +26,17 @@ use words::Cursor;
 
 // ---- `open` and `return`
 
-fn done(kind: Kind, path: &[u8], state: &mut [u8; 3333], work: [u8; 3333]) {
+fn done(kind: Kind, path: &[u8], state: &mut [u8; 3333], work: [u8; 3333])
+    ensures { λ _. ⌜ (Called (now (state .entry)) work → Called (now (state .entry)) (now (state .exit))) ⌝ }
+{
     if keep(kind, path, state, work) {
         say_line(b"ok\n");
     }
 }
 
-fn open_on(kind: Kind, work: &mut [u8; 3333], settings: Settings) -> Answer {
+fn open_on(kind: Kind, work: &mut [u8; 3333], settings: Settings) -> Answer
+    ensures { λ _. ⌜ Called (now (work .entry)) (now (work .exit)) ⌝ }
+{
     if is_wrong(kind) {
         let mut other = [0u8; 1];
         return console::open(&mut other, settings);
@@ -39,7 +44,9 @@ fn open_on(kind: Kind, work: &mut [u8; 3333], settings: Settings) -> Answer {
     console::open(work, settings)
 }
 
-pub fn open(line: &[u8], c: Cursor, kind: Kind, path: &[u8], state: &mut [u8; 3333]) {
+pub fn open(line: &[u8], c: Cursor, kind: Kind, path: &[u8], state: &mut [u8; 3333])
+    ensures { λ _. ⌜ Called (now (state .entry)) (now (state .exit)) ⌝ }
+{
     let asked = asked::settings(line, c);
     if asked.given {
         let settings = asked.settings;
@@ -51,7 +58,9 @@ pub fn open(line: &[u8], c: Cursor, kind: Kind, path: &[u8], state: &mut [u8; 33
     }
 }
 
-fn return_on(kind: Kind, work: &mut [u8; 3333]) -> Answer {
+fn return_on(kind: Kind, work: &mut [u8; 3333]) -> Answer
+    ensures { λ _. ⌜ Called (now (work .entry)) (now (work .exit)) ⌝ }
+{
     if is_wrong(kind) {
         let mut other = [0u8; 1];
         return console::return_box(&mut other);
@@ -59,7 +68,9 @@ fn return_on(kind: Kind, work: &mut [u8; 3333]) -> Answer {
     console::return_box(work)
 }
 
-pub fn return_box(line: &[u8], c: Cursor, kind: Kind, path: &[u8], state: &mut [u8; 3333]) {
+pub fn return_box(line: &[u8], c: Cursor, kind: Kind, path: &[u8], state: &mut [u8; 3333])
+    ensures { λ _. ⌜ Called (now (state .entry)) (now (state .exit)) ⌝ }
+{
     if ends(line, c) {
         let mut work = *state;
         match return_on(kind, &mut work) {
@@ -97,14 +108,18 @@ pub fn count(line: &[u8], c: Cursor, kind: Kind, state: &[u8; 3333]) {
 
 // ---- `calculate D0 D1 ..`
 
-fn drawn(state: &mut [u8], draw: &[u8], k: usize) -> Calculation {
+fn drawn(state: &mut [u8], draw: &[u8], k: usize) -> Calculation
+    ensures { λ _. ⌜ Called (now (state .entry)) (now (state .exit)) ⌝ }
+{
     if k < draw.len() {
         return console::calculate(state, &draw[0..k]);
     }
     console::calculate(state, draw)
 }
 
-fn calculate_on(kind: Kind, work: &mut [u8; 3333], draw: &[u8; 40], k: usize) -> Calculation {
+fn calculate_on(kind: Kind, work: &mut [u8; 3333], draw: &[u8; 40], k: usize) -> Calculation
+    ensures { λ _. ⌜ Called (now (work .entry)) (now (work .exit)) ⌝ }
+{
     if is_wrong(kind) {
         let mut other = [0u8; 1];
         return drawn(&mut other, draw, k);
@@ -120,7 +135,9 @@ fn calculated(kept: u32, outbid: u32) {
     send(&out, c);
 }
 
-pub fn calculate(line: &[u8], c: Cursor, kind: Kind, path: &[u8], state: &mut [u8; 3333]) {
+pub fn calculate(line: &[u8], c: Cursor, kind: Kind, path: &[u8], state: &mut [u8; 3333])
+    ensures { λ _. ⌜ Called (now (state .entry)) (now (state .exit)) ⌝ }
+{
     let mut numbers = [0u32; 40];
     let k = asked::all_numbers(line, c, 40, &mut numbers);
     if 40 < k {

@@ -1,4 +1,5 @@
 // The commands that write, read and file cards.
+ghost use Rattle.boxed.specs.Called.{Called};
 use asked::One;
 use asked::groups;
 use asked::lines_of;
@@ -46,14 +47,18 @@ fn show_card(card: &[u8; 39], n: usize) {
 
 // ---- `file HEX`
 
-fn file_part(state: &mut [u8], card: &[u8], n: usize) -> Answer {
+fn file_part(state: &mut [u8], card: &[u8], n: usize) -> Answer
+    ensures { λ _. ⌜ Called (now (state .entry)) (now (state .exit)) ⌝ }
+{
     if n < card.len() {
         return console::file(state, &card[0..n]);
     }
     console::file(state, card)
 }
 
-fn file_on(kind: Kind, work: &mut [u8; 3333], card: &[u8; 1024], n: usize) -> Answer {
+fn file_on(kind: Kind, work: &mut [u8; 3333], card: &[u8; 1024], n: usize) -> Answer
+    ensures { λ _. ⌜ Called (now (work .entry)) (now (work .exit)) ⌝ }
+{
     if is_wrong(kind) {
         let mut other = [0u8; 1];
         return file_part(&mut other, card, n);
@@ -61,7 +66,9 @@ fn file_on(kind: Kind, work: &mut [u8; 3333], card: &[u8; 1024], n: usize) -> An
     file_part(work, card, n)
 }
 
-pub fn file(line: &[u8], c: Cursor, kind: Kind, path: &[u8], state: &mut [u8; 3333]) {
+pub fn file(line: &[u8], c: Cursor, kind: Kind, path: &[u8], state: &mut [u8; 3333])
+    ensures { λ _. ⌜ Called (now (state .entry)) (now (state .exit)) ⌝ }
+{
     let mut card = [0u8; 1024];
     let n = asked::card(line, c, &mut card);
     if 1024 < n {
@@ -165,11 +172,15 @@ pub fn read(line: &[u8], c: Cursor) {
 
 // ---- `bid B T W X P ..`
 
-fn file_written(work: &mut [u8; 3333], card: &[u8; 39], n: usize) -> Answer {
+fn file_written(work: &mut [u8; 3333], card: &[u8; 39], n: usize) -> Answer
+    ensures { λ _. ⌜ Called (now (work .entry)) (now (work .exit)) ⌝ }
+{
     file_part(work, card, n)
 }
 
-fn filed(kind: Kind, path: &[u8], state: &mut [u8; 3333], card: &[u8; 39], n: usize) {
+fn filed(kind: Kind, path: &[u8], state: &mut [u8; 3333], card: &[u8; 39], n: usize)
+    ensures { λ _. ⌜ Called (now (state .entry)) (now (state .exit)) ⌝ }
+{
     let mut work = *state;
     match file_written(&mut work, card, n) {
         Answer::Done => {
@@ -226,7 +237,9 @@ fn other_count(products: usize, at: usize) {
     wrong_gathered(&text, b, at);
 }
 
-pub fn bid(line: &[u8], c: Cursor, kind: Kind, path: &[u8], state: &mut [u8; 3333]) {
+pub fn bid(line: &[u8], c: Cursor, kind: Kind, path: &[u8], state: &mut [u8; 3333])
+    ensures { λ _. ⌜ Called (now (state .entry)) (now (state .exit)) ⌝ }
+{
     let One::Number(bidder, next) = one_number(line, c) else {
         return;
     };

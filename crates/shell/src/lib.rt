@@ -1,4 +1,4 @@
-// The desk: a line of standard input is answered as soon as it is read.
+// The desk: a line of standard input is answered as soon as it is read. A run leaves the state that calls, one after the other, leave.
 mod start;
 
 use answers::Kind;
@@ -8,10 +8,13 @@ use words::Input;
 use words::keep_rest;
 use words::next_end;
 ghost use Prim.Native.Nat.{_≤_};
+ghost use Rattle.boxed.specs.Called.{Called, Reached};
 ghost use lib.ListN.{length};
 
 // A line, or the end of one that was too long, which is not answered again.
-fn answer_unless(skip: bool, line: &[u8], kind: Kind, path: &[u8], state: &mut [u8; 3333]) {
+fn answer_unless(skip: bool, line: &[u8], kind: Kind, path: &[u8], state: &mut [u8; 3333])
+    ensures { λ _. ⌜ Called (now (state .entry)) (now (state .exit)) ⌝ }
+{
     if !skip {
         answer(line, kind, path, state);
     }
@@ -27,7 +30,7 @@ fn answer_lines(
     state: &mut [u8; 3333],
 ) -> usize
     requires { ⌜ full ≤ length (now buf) ⌝ }
-    ensures { λ r. ⌜ r ≤ full ⌝ }
+    ensures { λ r. ⌜ (r ≤ full) × Reached (now (state .entry)) (now (state .exit)) ⌝ }
 {
     let mut start = 0;
     let mut skip = skipping;
@@ -53,6 +56,7 @@ fn answer_last(
     state: &mut [u8; 3333],
 )
     requires { ⌜ end ≤ length (now buf) ⌝ }
+    ensures { λ _. ⌜ Reached (now (state .entry)) (now (state .exit)) ⌝ }
 {
     if 0 < end {
         answer_unless(skipping, &buf[0..end], kind, path, state);
@@ -60,7 +64,9 @@ fn answer_last(
 }
 
 // Reads once, and answers each line that is then whole. A full buffer without a line end is a line that is too long.
-fn turn(buf: &mut [u8], from: Input, kind: Kind, path: &[u8], state: &mut [u8; 3333]) -> Input {
+fn turn(buf: &mut [u8], from: Input, kind: Kind, path: &[u8], state: &mut [u8; 3333]) -> Input
+    ensures { λ _. ⌜ Reached (now (state .entry)) (now (state .exit)) ⌝ }
+{
     let end = from.end;
     let skipping = from.skipping;
     if buf.len() <= end {
@@ -80,7 +86,9 @@ fn turn(buf: &mut [u8], from: Input, kind: Kind, path: &[u8], state: &mut [u8; 3
 
 // Room for a line of 2,048 bytes and its end. A proved loop has to end, and nothing says that an input does: so it counts its
 // turns down, from a number that no run uses up.
-fn serve(kind: Kind, path: &[u8], state: &mut [u8; 3333]) {
+fn serve(kind: Kind, path: &[u8], state: &mut [u8; 3333])
+    ensures { λ _. ⌜ Reached (now (state .entry)) (now (state .exit)) ⌝ }
+{
     let mut buf = [0u8; 2049];
     let mut at = Input::begun();
     let mut turns = u64::MAX;

@@ -1,16 +1,18 @@
+use Rattle.boxed.specs.Called.{Reached}
+use Rattle.boxed.proofs.Steps.{stays, once, onward}
 use Prim.Native.Nat.{_≤_, _-_}
 use borrow.Author.Needs.{needs}
 use Rattle.shell.proofs.answer_lines.Statement.{statement}
 use Rattle.shell.proofs.answer_lines.Tie as tie
 
 abbrev Inv-loop : tie.InvT-loop
-Inv-loop buf full skipping kind path state₀ start₀ skip₀ state start skip = start ≤ full
+Inv-loop buf full skipping kind path state₀ start₀ skip₀ state start skip = (start ≤ full) × Reached state₀ state
 
 abbrev μ-loop : tie.MeasureT-loop
 μ-loop buf full skipping kind path state₀ start₀ skip₀ state start skip = full - start
 
 loop-holds : tie.Need-loop-holds Inv-loop μ-loop
-loop-holds c = search needs
+loop-holds c = (search needs, stays _)
 
 next-end-requires : tie.Need-next-end-requires Inv-loop μ-loop
 next-end-requires c κs = search needs
@@ -37,7 +39,9 @@ loop-less : tie.Need-loop-less Inv-loop μ-loop
 loop-less c = search needs
 
 loop-again : tie.Need-loop-again Inv-loop μ-loop
-loop-again c = search needs
+loop-again c =
+    let l = c .before .before .before .before .before .before in
+    (search needs, onward _ _ _ (l .loop .inv .1) (once _ _ (c .answer-unless .ensures)))
 
 returns-2 : tie.Need-returns-2 Inv-loop μ-loop
 returns-2 c = search needs
