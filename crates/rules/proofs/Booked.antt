@@ -21,10 +21,12 @@ use Rattle.rules.specs.Bid.{bidIn, withdrawnIn, reduction, increase, rec
 use Rattle.rules.specs.Accept.{placeAt, acceptedAll, heldOf, keptOf, leftOf, movingOf, riseOf, column, rowOf, every}
 use Rattle.rules.specs.Outbid.{outbid, deemedUpTo}
 use Rattle.rules.specs.Round.{drawn, drawFits, afterStep2, afterStep4}
-use Rattle.rules.specs.Standing.{isOpen}
+use Rattle.rules.specs.Standing.{keptOn, isOpen}
 use Rattle.rules.proofs.Sums.{sum-ext, sum-le, sum-six, sum-ge, sum-add, sum-zero}
 use Rattle.rules.proofs.Lists.{clash}
 use Rattle.rules.proofs.Signed.{above-true, above-false}
+use Rattle.rules.proofs.Tests.{told}
+use Rattle.rules.proofs.Standing.{first-none}
 use Rattle.rules.specs.Stands.{Stands, Long}
 use Rattle.rules.proofs.Places.{goingOf, deniedOf, retainedOf, exitOf, worthOf}
 use Rattle.rules.proofs.Keep.{Moved, Ended, keep-ends, kept-met}
@@ -39,6 +41,7 @@ pub record Booked (a : Auction) (o : Outbid) : Type 0 where
       → x ≤ column heldOf (o .places) p (a .terms .bidders)
   pub kept : (p : ℕ) → p < a .terms .products → 0 < column keptOf (o .places) p (a .terms .bidders)
       → (priceAt a p < beforeAt a p) × (column heldOf (o .places) p (a .terms .bidders) ≡ targetOf (a .terms) p)
+  pub first : a .round ≡ 1 → (p : ℕ) → p < a .terms .products → column keptOf (o .places) p (a .terms .bidders) ≡ 0
   pub exits : (b p : ℕ) → b < a .terms .bidders → p < a .terms .products → 0 < retainedOf (placeAt (o .places) (b * 8 + p))
       → (priceAt a p < exitOf (placeAt (o .places) (b * 8 + p))) × (exitOf (placeAt (o .places) (b * 8 + p)) ≤ beforeAt a p)
   pub no-exit : (b p : ℕ) → b < a .terms .bidders → p < a .terms .products → retainedOf (placeAt (o .places) (b * 8 + p)) ≡ 0
@@ -216,6 +219,28 @@ module _ (a : Auction) (draw : List ℕ) where
     over-false false true false e f g = clash f refl
     over-false false false v e f g = refl
 
+    -- on a product that did not tick no more is kept than before
+    kept-less : (p : ℕ) → p < m → ticked a p ≡ false → column keptOf l4 p n ≤ keptOn a p
+    kept-less p hp e = sum-le _ _ n (λ b hb. omega (arith, trail b p hb hp, unticked b p hb hp e))
+
+    -- before round 1 nothing was held, so that it ticked nowhere and keeps nothing
+    first-by : a .round ≡ 1 → (p : ℕ) → p < m → (s : Bool) → ticked a p ≡ s → column keptOf l4 p n ≡ 0
+    first-by r p hp s e =
+        let no : (b : ℕ) → b < n → heldIn (recordOf a b p) ≡ 0 = λ b hb.
+        let z = first-none a S op r (b * 8 + p) (omega (arith, hm, hn)) in
+        let g : goingIn (recordOf a b p) ≡ 0 = search told in
+        let d : deniedIn (recordOf a b p) ≡ 0 = search told in
+        let t : retainedIn (recordOf a b p) ≡ 0 = search told in
+        omega arith in
+        let h = sum-ext (λ b. heldIn (recordOf a b p)) (λ b. 0) n no in
+        let k = sum-ext (λ b. keptIn (recordOf a b p)) (λ b. 0) n (λ b hb. omega (arith, no b hb)) in
+        by s e h k
+      where
+        by : (s : Bool) → ticked a p ≡ s → held (a .records) n p ≡ sumUpTo (λ b. 0) n → keptOn a p ≡ sumUpTo (λ b. 0) n
+            → column keptOf l4 p n ≡ 0
+        by true e h k = absurd (let x : ⊥ = omega (arith, above-true (held (a .records) n p) (goal p) e, sum-zero n) in x)
+        by false e h k = omega (arith, kept-less p hp e, sum-zero n)
+
     -- kept tranches only where held equals target, and where the price has fallen
     kept-by : (p : ℕ) → p < m → 0 < column keptOf l4 p n → (s : Bool) → ticked a p ≡ s
         → (priceAt a p < beforeAt a p) × (column heldOf l4 p n ≡ goal p)
@@ -223,9 +248,7 @@ module _ (a : Auction) (draw : List ℕ) where
         let x = kept-met m n goal (ticked a) l0 0 k kept-end p hp e .1 (omega (arith, kept-ticked p hp e)) in
         (S .fell p hp op (above-true (held (a .records) n p) (goal p) e), out-end .still p hp e ∙ held-deemed p ∙ x)
     kept-by p hp h false e =
-        let w = sum-le (λ b. keptOf (placeAt l4 (b * 8 + p))) (λ b. keptIn (recordOf a b p)) n
-        (λ b hb. omega (arith, trail b p hb hp, unticked b p hb hp e)) in
-        let y = S .kept p hp (omega arith) in
+        let y = S .kept p hp (omega (arith, kept-less p hp e)) in
         let low = filled-by p (goal p) hp (omega arith) (omega (arith, y)) false e in
         let up = above-false (column heldOf l4 p n) (goal p) (
         over-false (ticked a p) (above (standing (column heldOf l4 p n) (goal p))) (ltb 0 (column keptOf l4 p n)) e
@@ -279,6 +302,7 @@ module _ (a : Auction) (draw : List ℕ) where
       long-free = out-end .long-free ∙ length-replicate 32 (tranches 0);
       filled = λ p x hp g h. filled-by p x hp g h (ticked a p) refl;
       kept = λ p hp h. kept-by p hp h (ticked a p) refl;
+      first = λ r p hp. first-by r p hp (ticked a p) refl;
       exits = λ b p hb hp h. booked-exits b p hb hp (ticked a p) refl h;
       no-exit = booked-no-exit;
       caps = booked-caps;

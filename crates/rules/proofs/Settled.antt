@@ -19,10 +19,11 @@ use Rattle.rules.specs.Held.{nothing, goingIn, deniedIn, retainedIn, exi
 use Rattle.rules.specs.Bid.{bidIn, recordOf, priceAt, beforeAt, onProduct, slotOf, bidOn}
 use Rattle.rules.specs.Accept.{placeAt, heldOf, keptOf, column, rowOf}
 use Rattle.rules.specs.Round.{atRest, onward, atBottom, stops, settled}
-use Rattle.rules.specs.Standing.{keptOn, recordZero, slotStands, phaseStands}
+use Rattle.rules.specs.Standing.{keptOn, recordZero, slotStands, nothingKept, phaseStands}
 use Rattle.rules.proofs.Sums.{sum-ext, sum-le, sum-ge, sum-add}
 use Rattle.rules.proofs.Lists.{clash, both, all-give, list-at, list-long}
 use Rattle.rules.proofs.Signed.{above-zero}
+use Rattle.rules.proofs.Standing.{implied}
 use Rattle.rules.specs.Stands.{Stands, Long}
 use Rattle.rules.proofs.Places.{worthOf}
 use Rattle.rules.proofs.Made.{NoRecord}
@@ -205,9 +206,15 @@ module _ (a : Auction) (o : Outbid) where
           fell = λ p hp t l. let x = next a o S p hp e .fell l in omega (arith, x);
           same = λ p hp q. next a o S p hp e .stayed (omega arith);
           none = next-none a o S;
-          phase = rw (ne-eqb (a .round + 1) 1 (λ q. omega (arith, S .some-round))) (lt-ltb 0 (excess rest) h);
+          phase = rw (ne-eqb (a .round + 1) 1 (λ q. omega (arith, S .some-round)))
+              (both (lt-ltb 0 (excess rest) h) (implied (eqb (a .round + 1) 2) (nothingKept rest) second));
         }
       where
+        second : eqb (a .round + 1) 2 ≡ true → nothingKept rest ≡ true
+        second e =
+            let r = eqb-true (a .round + 1) 2 e in
+            all-give (λ p. eqb (keptOn rest p) 0) m (λ p hp. eq-eqb _ 0 (kept-is p hp ∙ B .first (omega arith) p hp))
+
         within-by : (p : ℕ) → p < m → (s : Bool) → ltb (goal p) (held (rest .records) n p) ≡ s
             → (1 ≤ getD prices p 0) × (getD prices p 0 ≤ getD befores p 0) × (getD befores p 0 ≤ startOf (a .terms) p)
         within-by p hp true f =

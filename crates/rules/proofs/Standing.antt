@@ -3,15 +3,15 @@ use mathlib.Core.Path.{_≡_, refl}
 use mathlib.Core.Bool.{Bool, true, false, _&&_}
 use Prim.Native.Nat.{ℕ, _+_, _*_, _/_, _%_, _≤_, _<_}
 use native.Mathlib.Omega.{arith}
-use borrow.Author.Tests.{ltb-true, ltb-false, lt-ltb, le-ltb, le-leb, eq-eqb, ne-eqb}
+use borrow.Author.Tests.{ltb-true, ltb-false, lt-ltb, le-ltb, le-leb, eqb-true, eq-eqb, ne-eqb}
 use lib.Dec.{eqb, ltb}
 use Rattle.rules.specs.declared.Record.{Record}
 use Rattle.rules.specs.declared.Terms.{Terms}
 use Rattle.rules.specs.declared.Auction.{Auction}
 use Rattle.rules.specs.Settings.{withinLimits, itemWithin, bidderWithin, rowWithin, targetOf, capOf, startOf, percentOf}
-use Rattle.rules.specs.Held.{retainedIn, exitIn, heldIn, held, ticked}
+use Rattle.rules.specs.Held.{retainedIn, exitIn, heldIn, recordAt, held, ticked, excess}
 use Rattle.rules.specs.Bid.{recordOf, priceAt, beforeAt}
-use Rattle.rules.specs.Standing.{implies, keptOn, isOpen, productStands, recordWithin, recordStands, bidderStands, slotStands, stands}
+use Rattle.rules.specs.Standing.{implies, keptOn, isOpen, productStands, recordZero, recordWithin, recordStands, bidderStands, slotStands, openStands, stands}
 use Rattle.rules.proofs.Sums.{and-left, and-right}
 use Rattle.rules.proofs.Lists.{all-give, all-take}
 use Rattle.rules.proofs.Signed.{above-true, lt-above}
@@ -136,10 +136,32 @@ module _ (a : Auction) (s : stands a ≡ true) where
     phase = search told;
   }
 
+-- ---- an open state
+
+module _ (a : Auction) (S : Stands a) (o : isOpen a ≡ true) where
+  open-in : openStands a ≡ true
+  open-in = rw o at (S .phase)
+
+  -- in round 1 nothing is held,
+  pub first-none : a .round ≡ 1 → (k : ℕ) → k < 256 → recordZero (recordAt (a .records) k) ≡ true
+  first-none e =
+      let x = rw (eq-eqb (a .round) 1 e) at open-in in
+      all-take (λ k. recordZero (recordAt (a .records) k)) 256 (search told)
+
+  -- later there is an excess,
+  pub later-excess : (a .round ≡ 1 → ⊥) → 0 < excess a
+  later-excess d = let x = rw (ne-eqb (a .round) 1 d) at open-in in search told
+
+  -- and in round 2 nothing is kept
+  pub second-none : a .round ≡ 2 → (p : ℕ) → p < a .terms .products → keptOn a p ≡ 0
+  second-none e p h =
+      let x = rw (ne-eqb (a .round) 1 (λ z. omega arith), eq-eqb (a .round) 2 e) at open-in in
+      eqb-true _ _ (all-take (λ p. eqb (keptOn a p) 0) (a .terms .products) (search told) p h)
+
 -- ---- and back
 
 -- an implication by its proof
-implied : (t u : Bool) → (t ≡ true → u ≡ true) → implies t u ≡ true
+pub implied : (t u : Bool) → (t ≡ true → u ≡ true) → implies t u ≡ true
 implied true u h = h refl
 implied false u h = refl
 

@@ -19,6 +19,8 @@ use Rattle.rules.specs.declared.Report.{Report}
 use Rattle.rules.specs.declared.Report.the-variants as report
 use Rattle.rules.specs.declared.Award.{Award}
 use Rattle.rules.specs.declared.Award.the-variants as award
+use Rattle.rules.specs.declared.Volume.{Volume}
+use Rattle.rules.specs.declared.Volume.the-variants as volume
 
 -- what a call lent bytes leaves: its answer, and the bytes at the end
 pub record Outcome (A : Type 0) : Type 0 where
@@ -95,3 +97,7 @@ reportSaid (report.Refused n) = said n []
 abbrev pub awardSaid : Award → Said
 awardSaid award.Given = said 0 []
 awardSaid (award.Refused n) = said n []
+
+abbrev pub volumeSaid : Volume → Said
+volumeSaid (volume.Suggested v) = said 0 (v ∷ [])
+volumeSaid (volume.Refused n) = said n []

@@ -7,6 +7,7 @@ use lib.ListN.{length, replicate}
 use lib.Seq.{sets}
 use lib.Count.{ones}
 use lib.Dec.{ltb, eqb}
+use Rattle.rules.specs.declared.Tranches.{Tranches}
 use Rattle.rules.specs.declared.Line.{Line}
 use Rattle.rules.specs.declared.Card.{Card}
 use Rattle.rules.specs.declared.Card.the-variants as card
@@ -22,6 +23,8 @@ use Rattle.rules.specs.declared.Calculation.{Calculation}
 use Rattle.rules.specs.declared.Calculation.the-variants as calculation
 use Rattle.rules.specs.declared.Reported.{Reported}
 use Rattle.rules.specs.declared.Awarded.{Awarded}
+use Rattle.rules.specs.declared.Volume.{Volume}
+use Rattle.rules.specs.declared.Volume.the-variants as volume
 use Rattle.rules.specs.Count.{listOf}
 use Rattle.rules.specs.Answers.{Outcome, outcome, unlessRefused, bidsOpen, closed}
 use Rattle.rules.specs.Settings.{settingsFit, termsOf, startOf}
@@ -30,6 +33,7 @@ use Rattle.rules.specs.Card.{noLine, readCard, writeCard}
 use Rattle.rules.specs.Held.{nothing}
 use Rattle.rules.specs.Bid.{judged}
 use Rattle.rules.specs.Round.{drawFits, calculated}
+use Rattle.rules.specs.Cutback.{mayCut, cutBack, suggestedVolume, suggestedNumber}
 use Rattle.rules.specs.Report.{reportOn, reportRefused, resultOf, resultRefused}
 use Rattle.rules.specs.Layout.{stateLength, stored, loaded, allZero}
 use Rattle.rules.specs.Standing.{isOpen, stands}
@@ -135,6 +139,17 @@ calculateCall s draw =
     (calculationDone (calculated (loaded s) draw))
     (outcome (calculation.Refused (calculateNumber s draw)) s)
 
+-- ---- cutback: 1, 2, 3, 20
+
+abbrev pub cutNumber : List Tranches → List Tranches → Auction → ℕ
+cutNumber targets caps a = cond (isOpen a) (cond (mayCut a targets caps) 0 20) 3
+
+abbrev pub cutbackNumber : List ℕ → List Tranches → List Tranches → ℕ
+cutbackNumber s targets caps = ofState s 3 (cutNumber targets caps)
+
+unfoldable pub cutbackCall : List ℕ → List Tranches → List Tranches → Outcome Answer
+cutbackCall s targets caps = unlessRefused (cutbackNumber s targets caps) (stored (cutBack (loaded s) targets caps)) s
+
 -- ---- report: 1, 2, 3 (issued), 6, 18 "open in round 1"
 
 abbrev pub bidderNumber : ℕ → Auction → ℕ
@@ -165,10 +180,14 @@ returnNumber s = cond (eqb (length s) stateLength) 0 1
 unfoldable pub returnCall : List ℕ → Outcome Answer
 returnCall s = unlessRefused (returnNumber s) (replicate stateLength 0) s
 
--- ---- apart from any auction: read 29, 4, 5; write 29, 4, 30
+-- ---- apart from any auction: read 29, 4, 5; write 29, 4, 30; suggested volume 31
 
 abbrev pub readCall : List ℕ → ℕ → CardRead
 readCall s n = readCard s n
 
 abbrev pub writeCall : List ℕ → ℕ → ℕ → ℕ → List Line → Outcome Answer
 writeCall room n bidder round ls = writeCard room n bidder round ls
+
+unfoldable pub suggestedCall : ℕ → ℕ → Volume
+suggestedCall bid ratio =
+    cond (eqb (suggestedNumber bid ratio) 0) (volume.Suggested (suggestedVolume bid ratio)) (volume.Refused (suggestedNumber bid ratio))

@@ -1,7 +1,7 @@
 -- "What is held." Assumes nothing.
 use mathlib.Core.Bool.{Bool, cond}
 use mathlib.Core.List.{List}
-use Prim.Native.Nat.{ℕ, zero, _+_, _*_, _-_}
+use Prim.Native.Nat.{ℕ, zero, _+_, _*_, _-_, min}
 use lib.ListN.{getD}
 use lib.Dec.{ltb}
 use lib.IntN.{ℤ, pos, negsuc, subℕ}
@@ -65,6 +65,10 @@ switchOutbid r = entry (goingIn r) (deniedIn r - 1) (retainedIn r) (exitIn r)
 abbrev pub withdrawalOutbid : Record → Record
 withdrawalOutbid r =
     entry (goingIn r) (deniedIn r) (retainedIn r - 1) (cond (ltb 1 (retainedIn r)) (exitIn r) 0)
+
+-- a bidder above a cap is set to it; g alone is cut, since it is only done where nothing is kept
+abbrev pub setTo : Record → ℕ → Record
+setTo r cap = entry (min (goingIn r) cap) (deniedIn r) (retainedIn r) (exitIn r)
 
 -- ---- the book
 

@@ -13,6 +13,7 @@ pub mod Outbid
 pub mod Round
 pub mod Counted
 pub mod Price
+pub mod Cutback
 pub mod Report
 pub mod Calls
 pub mod Standing

@@ -60,11 +60,11 @@ atRest phase a o = record {
   bids = replicate 256 noLine;
 }
 
--- "prices fall and the next round opens"
-abbrev pub onward : Auction → Auction
-onward a = record {
+-- a round opens at the prices that are worked out from the going prices and the book
+abbrev pub opensAt : ℕ → Auction → Auction
+opensAt round a = record {
   phase = bidsOpen;
-  round = a .round + 1;
+  round = round;
   filed = a .filed;
   terms = a .terms;
   price = listOf (λ p. nextPrice (a .terms) (standingOf a p) (targetOf (a .terms) p) (priceAt a p)) 8;
@@ -73,6 +73,10 @@ onward a = record {
   records = a .records;
   bids = a .bids;
 }
+
+-- "prices fall and the next round opens"
+abbrev pub onward : Auction → Auction
+onward a = opensAt (a .round + 1) a
 
 -- "a product above target is at price 1, or this was round 4,095"
 abbrev pub atBottom : Auction → Bool

@@ -79,9 +79,14 @@ asOpened a =
     && (allUpTo (λ b. eqb (freeOf a b) (initialOf (a .terms) b)) 32
     && allUpTo (λ p. eqb (priceAt a p) (startOf (a .terms) p) && eqb (beforeAt a p) (startOf (a .terms) p)) 8)
 
+-- "In an open round 2 nothing is kept, which standing requires."
+abbrev pub nothingKept : Auction → Bool
+nothingKept a = allUpTo (λ p. eqb (keptOn a p) 0) (a .terms .products)
+
 -- "open later rounds have excess above 0"
 abbrev pub openStands : Auction → Bool
-openStands a = cond (eqb (a .round) 1) (asOpened a) (ltb 0 (excess a))
+openStands a =
+    cond (eqb (a .round) 1) (asOpened a) (ltb 0 (excess a) && implies (eqb (a .round) 2) (nothingKept a))
 
 -- "closed and stopped states meet step 5 and hold no cards"
 abbrev pub endStands : Auction → Bool

@@ -5,7 +5,7 @@ ghost use Prim.Native.Nat.{_+_, _-_, _≤_, _<_};
 ghost use Rattle.rules.specs.Units.{kwh, mwDay, unitNumber, unitOf, amountOf, priceOf};
 ghost use Rattle.rules.specs.Answers.{phaseOf};
 ghost use Rattle.rules.specs.Card.{noLine, lineFits, lineZero};
-ghost use Rattle.rules.specs.Held.{nothing, goingIn, deniedIn, retainedIn, heldIn, keptIn, retained, denied, cancelled, deemed, switchOutbid, withdrawalOutbid};
+ghost use Rattle.rules.specs.Held.{nothing, goingIn, deniedIn, retainedIn, heldIn, keptIn, retained, denied, cancelled, deemed, switchOutbid, withdrawalOutbid, setTo};
 ghost use Rattle.rules.specs.Standing.{recordZero};
 ghost use Rattle.rules.specs.Accept.{leavingOf, movingOf, riseOf, retain, deny, cancel, deem, outbidSwitch, outbidWithdrawal};
 ghost use Rattle.rules.specs.Price.{fallen, priceFallen};
@@ -347,6 +347,27 @@ impl Record {
         self.retained.count.0 = n;
         self
     }
+
+    // A bidder above a reduced cap is set to it.
+    pub fn set_to(mut self, cap: Tranches) -> Record
+        ensures { λ r. ⌜ r ≡ setTo self (cap .0) ⌝ }
+    {
+        if self.going.0 > cap.0 {
+            self.going.0 = cap.0;
+            return self;
+        }
+        self
+    }
+
+    // The tranches above the cap.
+    pub fn above(self, cap: Tranches) -> u32
+        ensures { λ r. ⌜ (r ≡ goingIn self - cap .0) × (r ≤ goingIn self) ⌝ }
+    {
+        if self.going.0 > cap.0 {
+            return (self.going.0 - cap.0) as u32;
+        }
+        0
+    }
 }
 
 // ---- The whole state
@@ -574,6 +595,12 @@ pub struct Reported {
 
 pub enum Award {
     Given,
+    Refused(u8),
+}
+
+// The suggested volume, in tranches.
+pub enum Volume {
+    Suggested(u32),
     Refused(u8),
 }
 
