@@ -8,7 +8,7 @@ use lib.ListN.{length}
 use Rattle.rules.specs.Layout.{allZero}
 use Rattle.rules.specs.Calls.{returnCall}
 use Rattle.rules.specs.OneCall.{StandsIn}
-use Rattle.promises.specs.Runs.{Call, opens, files, counts, calculates, reports, results, reads, writes, after}
+use Rattle.promises.specs.Runs.{Call, opens, files, counts, calculates, cuts, reports, results, reads, writes, suggests, after}
 
 -- of the right length, and all zero
 pub record Issued (s : List ℕ) : Type 0 where
@@ -24,10 +24,12 @@ Sized (opens x) = (length (x .eligibility) ≡ 32) × (length (x .row) ≡ 8)
 Sized (files c) = Unit {0}
 Sized counts = Unit {0}
 Sized (calculates draw) = Unit {0}
+Sized (cuts targets caps) = Unit {0}
 Sized (reports b) = Unit {0}
 Sized results = Unit {0}
 Sized (reads c n) = Unit {0}
 Sized (writes room n b r ls) = Unit {0}
+Sized (suggests bid ratio) = Unit {0}
 
 -- a box is called and returned, in any order
 pub data Use : Type 0 where

@@ -3,24 +3,29 @@ use mathlib.Core.Bool.{cond}
 use mathlib.Core.List.{List, [], _∷_, _++_}
 use Prim.Native.Nat.{ℕ, min}
 use lib.Dec.{eqb}
+use Rattle.rules.specs.declared.Tranches.{Tranches}
 use Rattle.rules.specs.declared.Line.{Line}
 use Rattle.rules.specs.declared.Settings.{Settings}
+use Rattle.rules.specs.declared.Terms.{Terms}
 use Rattle.rules.specs.declared.Auction.{Auction}
-use Rattle.rules.specs.Settings.{targetOf}
+use Rattle.rules.specs.Settings.{termsOf, targetOf}
 use Rattle.rules.specs.Held.{held}
 use Rattle.rules.specs.Layout.{loaded}
-use Rattle.rules.specs.Calls.{openCall, fileCall, calculateCall, calculateNumber}
+use Rattle.rules.specs.Cutback.{revised}
+use Rattle.rules.specs.Calls.{openCall, fileCall, calculateCall, calculateNumber, cutbackCall, cutbackNumber}
 
--- every call but a return, with its inputs; read and write are lent no state
+-- every call but a return, with its inputs; read, write and the suggested volume are lent no state
 pub data Call : Type 0 where
   opens : Settings → Call
   files : List ℕ → Call
   counts : Call
   calculates : List ℕ → Call
+  cuts : List Tranches → List Tranches → Call
   reports : ℕ → Call
   results : Call
   reads : List ℕ → ℕ → Call
   writes : List ℕ → ℕ → ℕ → ℕ → List Line → Call
+  suggests : ℕ → ℕ → Call
 
 -- the state's bytes after a call, by the call's own definition: "Its calls alone change the state's bytes."
 abbrev pub after : List ℕ → Call → List ℕ
@@ -28,10 +33,12 @@ after s (opens x) = openCall s x .bytes
 after s (files c) = fileCall s c .bytes
 after s counts = s
 after s (calculates draw) = calculateCall s draw .bytes
+after s (cuts targets caps) = cutbackCall s targets caps .bytes
 after s (reports b) = s
 after s results = s
 after s (reads c n) = s
 after s (writes room n b r ls) = s
+after s (suggests bid ratio) = s
 
 -- "over any calls short of a return": accepted or refused, in any order
 abbrev pub run : List ℕ → List Call → List ℕ
@@ -58,12 +65,47 @@ roundOf s (opens x) = []
 roundOf s (files c) = []
 roundOf s counts = []
 roundOf s (calculates draw) = cond (eqb (calculateNumber s draw) 0) (record { auction = loaded s; draw = draw } ∷ []) []
+roundOf s (cuts targets caps) = []
 roundOf s (reports b) = []
 roundOf s results = []
 roundOf s (reads c n) = []
 roundOf s (writes room n b r ls) = []
+roundOf s (suggests bid ratio) = []
 
 -- the calculations of a run that were not refused, in their order
 abbrev pub rounds : List ℕ → List Call → List Round
 rounds s [] = []
 rounds s (c ∷ cs) = roundOf s c ++ rounds (after s c) cs
+
+-- ---- the cutbacks of a run
+
+-- a cutback: the revised targets and caps
+pub record Cutback : Type 0 where
+  pub targets : List Tranches
+  pub caps : List Tranches
+
+abbrev pub cutbackOf : List ℕ → Call → List Cutback
+cutbackOf s (opens x) = []
+cutbackOf s (files c) = []
+cutbackOf s counts = []
+cutbackOf s (calculates draw) = []
+cutbackOf s (cuts targets caps) = cond (eqb (cutbackNumber s targets caps) 0) (record { targets = targets; caps = caps } ∷ []) []
+cutbackOf s (reports b) = []
+cutbackOf s results = []
+cutbackOf s (reads c n) = []
+cutbackOf s (writes room n b r ls) = []
+cutbackOf s (suggests bid ratio) = []
+
+-- the cutbacks of a run that were not refused, in their order
+abbrev pub cutbacks : List ℕ → List Call → List Cutback
+cutbacks s [] = []
+cutbacks s (c ∷ cs) = cutbackOf s c ++ cutbacks (after s c) cs
+
+-- "the revised numbers": the settings with the targets and caps of each cutback in its turn
+abbrev pub revisedBy : Terms → List Cutback → Terms
+revisedBy t [] = t
+revisedBy t (k ∷ ks) = revisedBy (revised t (k .targets) (k .caps)) ks
+
+-- the settings after the calls cs that follow an opening: those opened, where no cutback was accepted
+abbrev pub settingsAfter : List ℕ → Settings → List Call → Terms
+settingsAfter s x cs = revisedBy (termsOf x) (cutbacks (openedBy s x) cs)

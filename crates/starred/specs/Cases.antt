@@ -6,6 +6,7 @@ use Prim.Native.Nat.{ℕ, _+_, _*_}
 use lib.ListN.{getD, replicate}
 use Rattle.rules.specs.declared.Line.{Line}
 use Rattle.rules.specs.declared.Record.{Record}
+use Rattle.rules.specs.declared.Item.{Item}
 use Rattle.rules.specs.declared.Terms.{Terms}
 use Rattle.rules.specs.declared.Auction.{Auction}
 use Rattle.rules.specs.declared.Calculated.{Calculated}
@@ -27,24 +28,24 @@ use Rattle.rules.specs.Calls.{opened, withCard}
 
 -- ---- how a row is written
 
--- two products and three bidders
-abbrev terms : ℕ → ℕ → ℕ → ℕ → ℕ → Terms
-terms x y all p q = record {
+-- two products and three bidders: the products with their target, cap and starting price, and the statewide cap
+abbrev pub terms : Item → Item → ℕ → Terms
+terms x y all = record {
   unit = 0;
   products = 2;
   bidders = 3;
   rows = 2;
   statewide = tranches all;
-  item = item x x p ∷ item y y q ∷ replicate 6 noItem;
+  item = x ∷ y ∷ replicate 6 noItem;
   eligibility = tranches 3 ∷ tranches 3 ∷ tranches 3 ∷ replicate 29 (tranches 0);
   row = row 0 100 ∷ row 50 300 ∷ replicate 6 noRow;
 }
 
-abbrev book : Record → Record → Record → Record → Record → Record → List Record
+abbrev pub book : Record → Record → Record → Record → Record → Record → List Record
 book a b c d e f = a ∷ b ∷ replicate 6 nothing ++ c ∷ d ∷ replicate 6 nothing ++ e ∷ f ∷ replicate 238 nothing
 
 -- phase and round; going prices; prices before their latest fall; records; the first bidder's free eligibility
-abbrev state : Terms → ℕ → ℕ → ℕ → ℕ → ℕ → ℕ → List Record → ℕ → Auction
+abbrev pub state : Terms → ℕ → ℕ → ℕ → ℕ → ℕ → ℕ → List Record → ℕ → Auction
 state t phase round p₀ p₁ q₀ q₁ rs f = record {
   phase = phase;
   round = round;
@@ -58,19 +59,19 @@ state t phase round p₀ p₁ q₀ q₁ rs f = record {
 }
 
 -- tranches at the going price, and nothing withdrawn or switched
-abbrev g : ℕ → Record
+abbrev pub g : ℕ → Record
 g n = entry n 0 0 0
 
-abbrev b : ℕ → Line
+abbrev pub b : ℕ → Line
 b n = line n 0 0 0
 
-abbrev card : Line → Line → List Line
+abbrev pub card : Line → Line → List Line
 card x y = x ∷ y ∷ replicate 6 noLine
 
-abbrev filed : Auction → List Line → List Line → List Line → Auction
+abbrev pub filed : Auction → List Line → List Line → List Line → Auction
 filed a x y z = withCard (withCard (withCard a 0 x) 1 y) 2 z
 
-abbrev figures : Auction → ℕ → ℕ → Calculated
+abbrev pub figures : Auction → ℕ → ℕ → Calculated
 figures z k o = record { auction = z; kept = k; outbid = o }
 
 abbrev awardOf : Auction → ℕ → ℕ
@@ -112,10 +113,10 @@ All (c ∷ cs) = Holds c × All cs
 -- ---- the states that the rows go through
 
 abbrev S : Terms
-S = terms 3 2 5 1000 800
+S = terms (item 3 3 1000) (item 2 2 800) 5
 
 abbrev T : Terms
-T = terms 2 2 4 1000 1000
+T = terms (item 2 2 1000) (item 2 2 1000) 4
 
 abbrev s1 : Auction
 s1 = state S bidsOpen 2 970 800 1000 800 (book (g 2) (g 0) (g 2) (g 1) (g 1) (g 1)) 0
@@ -144,7 +145,7 @@ t3′ = state T bidsOpen 4 941 913 970 941 (book (g 2) (g 0) (g 1) (g 1) (g 0) (
 abbrev chain : Auction
 chain = state T closed 2 970 970 1000 1000 (book (entry 0 1 0 0) (g 1) (entry 0 0 1 990) (g 0) (g 0) (entry 0 0 1 980)) 0
 
-abbrev draw : ℕ → ℕ → ℕ → List ℕ
+abbrev pub draw : ℕ → ℕ → ℕ → List ℕ
 draw x y z = x ∷ y ∷ z ∷ []
 
 unfoldable pub starred : List Case
