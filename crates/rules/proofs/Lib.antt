@@ -25,4 +25,5 @@ pub mod Prices
 pub mod Settled
 pub mod Round
 pub mod Offers
+pub mod Cutback
 pub mod OneCall

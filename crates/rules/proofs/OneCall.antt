@@ -2,11 +2,13 @@
 use mathlib.Core.Path.{_≡_, refl, sym, _∙_, ap, subst}
 use mathlib.Core.Bool.{Bool, true, false, cond}
 use mathlib.Core.List.{List}
-use Prim.Native.Nat.{ℕ, zero, suc, _<_}
+use Prim.Native.Nat.{ℕ, zero, suc, _*_, _≤_, _<_}
 use native.Mathlib.Omega.{arith}
-use borrow.Author.Tests.{eqb-true, eq-eqb, ne-eqb}
+use native.Mathlib.Nat.{div-mul-le-self, le-div-iff-mul-le}
+use borrow.Author.Tests.{eqb-true, eqb-false, eq-eqb, ne-eqb}
 use lib.ListN.{length, getD, replicate}
-use lib.Dec.{eqb}
+use lib.Dec.{eqb, leb}
+use Rattle.rules.specs.declared.Tranches.{Tranches}
 use Rattle.rules.specs.declared.Line.{Line}
 use Rattle.rules.specs.declared.Settings.{Settings}
 use Rattle.rules.specs.declared.Auction.{Auction}
@@ -16,14 +18,15 @@ use Rattle.rules.specs.declared.Calculation.{Calculation}
 use Rattle.rules.specs.declared.Calculation.the-variants as calculation
 use Rattle.rules.specs.Answers.{Outcome, outcome, unlessRefused, closed, stopped}
 use Rattle.rules.specs.Settings.{settingsFit, termsOf}
-use Rattle.rules.specs.OneCall.{StandsIn, RefusedSame, FiledOnly}
+use Rattle.rules.specs.OneCall.{StandsIn, RefusedSame, FiledOnly, CutOnly, CutPrice}
 use Rattle.rules.specs.Held.{excess}
 use Rattle.rules.specs.Round.{drawFits, afterStep2, afterStep4, atRest, onward, stops, settled, calculated}
+use Rattle.rules.specs.Cutback.{mayCut, cutBack, suggestedVolume, suggestedNumber}
 use Rattle.rules.specs.Layout.{stateLength, stored, loaded, allZero}
 use Rattle.rules.specs.Standing.{isOpen, stands}
 use Rattle.rules.specs.Card.{readCard, cardOf, writeNumber, writeCard}
 use Rattle.rules.specs.Bid.{hasFiled, slotOf}
-use Rattle.rules.specs.Calls.{opened, openNumber, openCall, ofState, cardNumber, fileNumber, bidderOn, afterCard, fileCall, countNumber, drawNumber, calculateNumber, calculationDone, calculateCall, reportNumber, resultNumber, returnNumber, returnCall, writeCall}
+use Rattle.rules.specs.Calls.{opened, openNumber, openCall, ofState, cardNumber, fileNumber, bidderOn, afterCard, fileCall, countNumber, drawNumber, calculateNumber, calculationDone, calculateCall, cutNumber, cutbackNumber, cutbackCall, reportNumber, resultNumber, returnNumber, returnCall, writeCall}
 use Rattle.rules.proofs.Lists.{clash, all-give, all-take}
 use Rattle.rules.specs.Stands.{Stands}
 use Rattle.rules.proofs.Standing.{stands-take, stands-give}
@@ -34,6 +37,7 @@ use Rattle.rules.proofs.Storing.{stored-long, loaded-long, loaded-bits,
 use Rattle.rules.proofs.Fitting.{phase-small, standing-loads}
 use Rattle.rules.proofs.Calling.{granted, opens, opens-loads, read-long, file-take, files, files-loads}
 use Rattle.rules.proofs.Round.{round-stands, round-long}
+use Rattle.rules.proofs.Cutback.{cut-stands, cut-long, cut-only, cut-price}
 
 -- "Standing means", of the auction that the bytes hold
 pub stood : (s : List ℕ) → StandsIn s → Stands (loaded s)
@@ -70,28 +74,31 @@ module _ (s : List ℕ) (l : length s ≡ 3333) (z : allZero s ≡ true) where
 
   -- "all zero as issued": it does not stand, bids are not open, and the auction is not closed
   pub issued-not-standing : (stands (loaded s) ≡ false) × ((c : List ℕ) → fileNumber s c ≡ 3) × (countNumber s ≡ 3)
-      × ((draw : List ℕ) → calculateNumber s draw ≡ 3) × ((b : ℕ) → reportNumber s b ≡ 3) × (resultNumber s ≡ 16)
+      × ((draw : List ℕ) → calculateNumber s draw ≡ 3) × ((targets caps : List Tranches) → cutbackNumber s targets caps ≡ 3)
+      × ((b : ℕ) → reportNumber s b ≡ 3) × (resultNumber s ≡ 16)
   issued-not-standing =
       let e = eq-eqb (length s) 3333 l in
-      (issued-by (stands (loaded s)) refl, λ c. rw (e, z), rw (e, z), λ draw. rw (e, z), λ b. rw (e, z), rw (e, z))
+      (issued-by (stands (loaded s)) refl, λ c. rw (e, z), rw (e, z), λ draw. rw (e, z), λ targets caps. rw (e, z), λ b. rw (e, z), rw (e, z))
 
 -- ---- astray
 
 -- a state of the wrong length is answered 1 by every call
 pub wrong-length : (s : List ℕ) → (length s ≡ 3333 → ⊥) → ((x : Settings) → openNumber s x ≡ 1) × ((c : List ℕ) → fileNumber s c ≡ 1)
-    × (countNumber s ≡ 1) × ((draw : List ℕ) → calculateNumber s draw ≡ 1) × ((b : ℕ) → reportNumber s b ≡ 1) × (resultNumber s ≡ 1)
+    × (countNumber s ≡ 1) × ((draw : List ℕ) → calculateNumber s draw ≡ 1)
+    × ((targets caps : List Tranches) → cutbackNumber s targets caps ≡ 1) × ((b : ℕ) → reportNumber s b ≡ 1) × (resultNumber s ≡ 1)
     × (returnNumber s ≡ 1)
 wrong-length s l =
     let e = ne-eqb (length s) 3333 l in
-    (λ x. rw e, λ c. rw e, rw e, λ draw. rw e, λ b. rw e, rw e, rw e)
+    (λ x. rw e, λ c. rw e, rw e, λ draw. rw e, λ targets caps. rw e, λ b. rw e, rw e, rw e)
 
 -- "state neither issued nor standing": 2, to an opening 17, and to a return nothing
 pub neither : (s : List ℕ) → length s ≡ 3333 → allZero s ≡ false → stands (loaded s) ≡ false
     → ((x : Settings) → openNumber s x ≡ 17) × ((c : List ℕ) → fileNumber s c ≡ 2) × (countNumber s ≡ 2)
-    × ((draw : List ℕ) → calculateNumber s draw ≡ 2) × ((b : ℕ) → reportNumber s b ≡ 2) × (resultNumber s ≡ 2) × (returnNumber s ≡ 0)
+    × ((draw : List ℕ) → calculateNumber s draw ≡ 2) × ((targets caps : List Tranches) → cutbackNumber s targets caps ≡ 2)
+    × ((b : ℕ) → reportNumber s b ≡ 2) × (resultNumber s ≡ 2) × (returnNumber s ≡ 0)
 neither s l z n =
     let e = eq-eqb (length s) 3333 l in
-    (λ x. rw (e, z), λ c. rw (e, z, n), rw (e, z, n), λ draw. rw (e, z, n), λ b. rw (e, z, n), rw (e, z, n), rw e)
+    (λ x. rw (e, z), λ c. rw (e, z, n), rw (e, z, n), λ draw. rw (e, z, n), λ targets caps. rw (e, z, n), λ b. rw (e, z, n), rw (e, z, n), rw e)
 
 -- ---- refused
 
@@ -106,11 +113,12 @@ calculate-same s n done k d true e = let f = d .2 in let z : _≡_ {A = ℕ} 0 1
 calculate-same s n done k d false e = refl
 
 pub refused-same : (s : List ℕ) (n : ℕ) → RefusedSame s n
-unfolding openCall fileCall calculateCall returnCall writeCard
+unfolding openCall fileCall calculateCall cutbackCall returnCall writeCard
 refused-same s n = record {
   opening = λ x. unless-same (openNumber s x) n (stored (opened (termsOf x))) s;
   filing = λ c. unless-same (fileNumber s c) n (stored (afterCard c (loaded s))) s;
   calculating = λ draw. calculate-same s n _ _ (_, _, refl) (eqb (calculateNumber s draw) 0);
+  cutting = λ targets caps. unless-same (cutbackNumber s targets caps) n (stored (cutBack (loaded s) targets caps)) s;
   returning = unless-same (returnNumber s) n (replicate stateLength 0) s;
   writing = λ m b r ls. unless-same (writeNumber (length s) m b r ls) n (cardOf m b r ls) s;
 }
@@ -127,6 +135,10 @@ file-refused s c h = rw (ne-eqb (fileNumber s c) 0 h)
 pub calculate-refused : (s draw : List ℕ) → (calculateNumber s draw ≡ 0 → ⊥) → calculateCall s draw .bytes ≡ s
 unfolding calculateCall
 calculate-refused s draw h = rw (ne-eqb (calculateNumber s draw) 0 h)
+
+pub cutback-refused : (s : List ℕ) (targets caps : List Tranches) → (cutbackNumber s targets caps ≡ 0 → ⊥) → cutbackCall s targets caps .bytes ≡ s
+unfolding cutbackCall
+cutback-refused s targets caps h = rw (ne-eqb (cutbackNumber s targets caps) 0 h)
 
 -- ---- return
 
@@ -271,3 +283,68 @@ module _ (s : List ℕ) (S : StandsIn s) (draw : List ℕ) where
   pub calculate-stands : StandsIn (calculateCall s draw .bytes)
   unfolding calculateCall
   calculate-stands = calculate-by (eqb (calculateNumber s draw) 0) refl
+
+-- ---- cutback
+
+module _ (s : List ℕ) (S : StandsIn s) (targets caps : List Tranches) where
+  -- a cutback accepted: bids are open, and every condition of 20 is met
+  pub cutback-accepts : cutbackNumber s targets caps ≡ 0 → (isOpen (loaded s) ≡ true) × (mayCut (loaded s) targets caps ≡ true)
+  cutback-accepts e =
+      let o = granted (isOpen (loaded s)) _ 3 (omega arith) (sym (of-standing s S 3 (cutNumber targets caps)) ∙ e) in
+      (o .0, granted (mayCut (loaded s) targets caps) 0 20 (omega arith) (o .1) .0)
+
+  -- and where they are met it is accepted
+  pub cutback-may : isOpen (loaded s) ≡ true → mayCut (loaded s) targets caps ≡ true → cutbackNumber s targets caps ≡ 0
+  cutback-may o m = of-standing s S 3 (cutNumber targets caps) ∙ rw (o, m)
+
+  module _ (e : cutbackNumber s targets caps ≡ 0) where
+    cut-stood : Stands (cutBack (loaded s) targets caps)
+    cut-stood = let o = cutback-accepts e in cut-stands (loaded s) targets caps (stood s S) (o .0) (o .1)
+
+    cut-loads : loaded (stored (cutBack (loaded s) targets caps)) ≡ cutBack (loaded s) targets caps
+    cut-loads =
+        let o = cutback-accepts e in
+        let f = cut-only (loaded s) targets caps (stood s S) (o .0) (o .1) .filed in
+        standing-loads (cutBack (loaded s) targets caps) cut-stood (cut-long (loaded s) targets caps (stood s S) (o .0) (o .1) (loaded-long s))
+        (omega (arith, f, S .bits))
+
+    -- a cutback accepted: the bytes hold the auction cut back,
+    pub cutback-loaded : loaded (cutbackCall s targets caps .bytes) ≡ cutBack (loaded s) targets caps
+    unfolding cutbackCall
+    cutback-loaded = rw e cut-loads
+
+    -- in which nothing else has changed,
+    pub cutback-only : CutOnly (loaded s) (loaded (cutbackCall s targets caps .bytes)) targets caps
+    cutback-only =
+        let o = cutback-accepts e in
+        rw cutback-loaded (cut-only (loaded s) targets caps (stood s S) (o .0) (o .1))
+
+    -- at prices worked out from the starting prices
+    pub cutback-price : (p : ℕ) → p < loaded s .terms .products → CutPrice (loaded s) (loaded (cutbackCall s targets caps .bytes)) p
+    cutback-price =
+        let o = cutback-accepts e in
+        rw cutback-loaded (cut-price (loaded s) targets caps (stood s S) (o .0) (o .1))
+
+  cutback-by : (t : Bool) → eqb (cutbackNumber s targets caps) 0 ≡ t → StandsIn (cond t (stored (cutBack (loaded s) targets caps)) s)
+  cutback-by true e =
+      let k = eqb-true (cutbackNumber s targets caps) 0 e in
+      stored-stands (cutBack (loaded s) targets caps) (cut-stood k) (cut-loads k)
+  cutback-by false e = S
+
+  -- a cutback made or refused leaves a standing state
+  pub cutback-stands : StandsIn (cutbackCall s targets caps .bytes)
+  unfolding cutbackCall
+  cutback-stands = cutback-by (eqb (cutbackNumber s targets caps) 0) refl
+
+-- ---- the suggested volume
+
+-- it is the largest volume v with v x ratio at most tranches bid x 100
+pub suggested-largest : (bid ratio : ℕ) → suggestedNumber bid ratio ≡ 0
+    → (suggestedVolume bid ratio * ratio ≤ bid * 100) × ((v : ℕ) → v * ratio ≤ bid * 100 → v ≤ suggestedVolume bid ratio)
+suggested-largest bid ratio e =
+    let h = some-ratio ratio (eqb ratio 0) refl e in
+    (div-mul-le-self (bid * 100) ratio, λ v l. le-div-iff-mul-le h .1 l)
+  where
+    some-ratio : (r : ℕ) (t : Bool) → eqb r 0 ≡ t → _≡_ {A = ℕ} (cond t 31 (cond (leb bid 51200) 0 31)) 0 → 0 < r
+    some-ratio r true f g = absurd (let z : ⊥ = omega arith in z)
+    some-ratio r false f g = let d = eqb-false r 0 f in omega (arith, d)

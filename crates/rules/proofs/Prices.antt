@@ -11,21 +11,17 @@ use lib.Dec.{eqb, leb}
 use Rattle.rules.specs.declared.Pick.{Pick}
 use Rattle.rules.specs.declared.Pick.the-variants.{At, Nobody}
 use Rattle.rules.specs.declared.Terms.{Terms}
-use Rattle.rules.specs.declared.Outbid.{Outbid}
 use Rattle.rules.specs.declared.Auction.{Auction}
 use Rattle.rules.specs.Count.{never, isAt, listOf}
-use Rattle.rules.specs.Answers.{closed}
 use Rattle.rules.specs.Settings.{targetOf, percentOf, decrementOf}
-use Rattle.rules.specs.OneCall.{PriceAfter}
 use Rattle.rules.specs.Held.{held, above, aboveZero, standingOf}
 use Rattle.rules.specs.Bid.{priceAt, beforeAt}
 use Rattle.rules.specs.Price.{decrementUpTo, decrementFor, fallen, nextPrice, nextBefore}
-use Rattle.rules.specs.Round.{atRest, atBottom, stops}
-use Rattle.rules.specs.Standing.{isOpen}
+use Rattle.rules.specs.Round.{atBottom, stops}
 use Rattle.rules.proofs.Sums.{best-none}
 use Rattle.rules.proofs.Lists.{clash, list-at}
 use Rattle.rules.proofs.Signed.{above-true, above-false, lt-above}
-use Rattle.rules.specs.Stands.{Limits, Stands}
+use Rattle.rules.specs.Stands.{Limits}
 
 -- no decrement is above 500 basis points
 decrement-small : (t : Terms) → Limits t → (pct n : ℕ) → n ≤ t .rows → decrementUpTo t pct n ≤ 500
@@ -58,15 +54,15 @@ pub record Priced (a : Auction) (p x price before : ℕ) : Type 0 where
   pub fell : targetOf (a .terms) p < x → (1 ≤ price) × (price < priceAt a p) × (before ≡ priceAt a p)
   pub stayed : x ≤ targetOf (a .terms) p → (price ≡ priceAt a p) × (before ≡ beforeAt a p)
 
--- the prices of the next round, and the prices before them
-abbrev pub nextPrices : Auction → Outbid → List ℕ
-nextPrices a o =
-    listOf (λ p. nextPrice (a .terms) (standingOf (atRest closed a o) p) (targetOf (a .terms) p) (priceAt a p)) 8
+-- the prices at which a round opens, and the prices before them
+abbrev pub nextPrices : Auction → List ℕ
+nextPrices a = listOf (λ p. nextPrice (a .terms) (standingOf a p) (targetOf (a .terms) p) (priceAt a p)) 8
 
-abbrev pub nextBefores : Auction → Outbid → List ℕ
-nextBefores a o = listOf (λ p. nextBefore (standingOf (atRest closed a o) p) (priceAt a p) (beforeAt a p)) 8
+abbrev pub nextBefores : Auction → List ℕ
+nextBefores a = listOf (λ p. nextBefore (standingOf a p) (priceAt a p) (beforeAt a p)) 8
 
-module _ (a : Auction) (o : Outbid) where
+-- of any book at prices of at least 1
+module _ (a : Auction) (L : Limits (a .terms)) where
   abbrev m : ℕ
   m = a .terms .products
 
@@ -76,56 +72,52 @@ module _ (a : Auction) (o : Outbid) where
   abbrev goal : ℕ → ℕ
   goal = targetOf (a .terms)
 
-  abbrev rest : Auction
-  rest = atRest closed a o
-
   abbrev priceOf : ℕ → ℕ
-  priceOf p = nextPrice (a .terms) (standingOf rest p) (goal p) (priceAt a p)
+  priceOf p = nextPrice (a .terms) (standingOf a p) (goal p) (priceAt a p)
 
   abbrev beforeOf : ℕ → ℕ
-  beforeOf p = nextBefore (standingOf rest p) (priceAt a p) (beforeAt a p)
+  beforeOf p = nextBefore (standingOf a p) (priceAt a p) (beforeAt a p)
 
-  module _ (S : Stands a) where
-    -- a product above target that did not stop the auction is at 2 at least
-    two : (p : ℕ) → p < m → stops rest ≡ false → goal p < held (rest .records) n p → 2 ≤ priceAt a p
-    two p hp e h =
-        let q = nobody _ (cond-false (atBottom rest) _ e .0) in
-        let x = best-none (λ p. above (standingOf rest p) && eqb (priceAt a p) 1) never m q p hp in
-        let y = eqb-false (priceAt a p) 1 (and-false _ _ (lt-above (held (rest .records) n p) (goal p) h) x) in
-        let z = S .prices p hp in
-        omega (arith, y, z)
+  -- a product above target that did not stop the auction is at 2 at least
+  two : (p : ℕ) → p < m → 1 ≤ priceAt a p → stops a ≡ false → goal p < held (a .records) n p → 2 ≤ priceAt a p
+  two p hp z e h =
+      let q = nobody _ (cond-false (atBottom a) _ e .0) in
+      let x = best-none (λ p. above (standingOf a p) && eqb (priceAt a p) 1) never m q p hp in
+      let y = eqb-false (priceAt a p) 1 (and-false _ _ (lt-above (held (a .records) n p) (goal p) h) x) in
+      omega (arith, y, z)
 
-    -- the next prices of the products in use
-    pub next : (p : ℕ) → p < a .terms .products → stops (atRest closed a o) ≡ false
-        → Priced a p (held (atRest closed a o .records) (a .terms .bidders) p) (getD (nextPrices a o) p 0) (getD (nextBefores a o) p 0)
-    next p hp e =
-        rw (
-          list-at priceOf 0 8 p (omega (arith, S .limits .products)),
-          list-at beforeOf 0 8 p (omega (arith, S .limits .products)),
-        ) (by (above (standingOf rest p)) refl)
-      where
-        by : (s : Bool) → above (standingOf rest p) ≡ s
-            → Priced a p (held (rest .records) n p)
-            (cond s (fallen (priceAt a p) (decrementFor (a .terms) (aboveZero (standingOf rest p)) (goal p))) (priceAt a p))
-            (cond s (priceAt a p) (beforeAt a p))
-        by true f =
-            let h = above-true (held (rest .records) n p) (goal p) f in
-            let u = falls (priceAt a p) (decrementFor (a .terms) (aboveZero (standingOf rest p)) (goal p)) (two p hp e h)
-            (decrement-small (a .terms) (S .limits) (100 * aboveZero (standingOf rest p) / goal p) (a .terms .rows) (omega arith)) in
-            record { fell = λ _. (u .0, u .1, refl); stayed = λ l. absurd (let z : ⊥ = omega arith in z) }
-        by false f =
-            let h = above-false (held (rest .records) n p) (goal p) f in
-            record { fell = λ l. absurd (let z : ⊥ = omega arith in z); stayed = λ _. (refl, refl) }
+  -- the next prices of the products in use
+  pub next : (p : ℕ) → p < a .terms .products → 1 ≤ priceAt a p → stops a ≡ false
+      → Priced a p (held (a .records) (a .terms .bidders) p) (getD (nextPrices a) p 0) (getD (nextBefores a) p 0)
+  next p hp z e =
+      rw (
+        list-at priceOf 0 8 p (omega (arith, L .products)),
+        list-at beforeOf 0 8 p (omega (arith, L .products)),
+      ) (by (above (standingOf a p)) refl)
+    where
+      by : (s : Bool) → above (standingOf a p) ≡ s
+          → Priced a p (held (a .records) n p)
+          (cond s (fallen (priceAt a p) (decrementFor (a .terms) (aboveZero (standingOf a p)) (goal p))) (priceAt a p))
+          (cond s (priceAt a p) (beforeAt a p))
+      by true f =
+          let h = above-true (held (a .records) n p) (goal p) f in
+          let u = falls (priceAt a p) (decrementFor (a .terms) (aboveZero (standingOf a p)) (goal p)) (two p hp z e h)
+          (decrement-small (a .terms) L (100 * aboveZero (standingOf a p) / goal p) (a .terms .rows) (omega arith)) in
+          record { fell = λ _. (u .0, u .1, refl); stayed = λ l. absurd (let z : ⊥ = omega arith in z) }
+      by false f =
+          let h = above-false (held (a .records) n p) (goal p) f in
+          record { fell = λ l. absurd (let z : ⊥ = omega arith in z); stayed = λ _. (refl, refl) }
 
-    -- past the products in use the next prices are 0
-    pub next-none : (p : ℕ) → a .terms .products ≤ p → p < 8 → (getD (nextPrices a o) p 0 ≡ 0) × (getD (nextBefores a o) p 0 ≡ 0)
-    next-none p h hp =
-        rw (
-          list-at priceOf 0 8 p hp,
-          list-at beforeOf 0 8 p hp,
-        ) (by (above (standingOf rest p)))
-      where
-        by : (s : Bool) → (cond s (fallen (priceAt a p) (decrementFor (a .terms) (aboveZero (standingOf rest p)) (goal p))) (priceAt a p) ≡ 0)
-            × (cond s (priceAt a p) (beforeAt a p) ≡ 0)
-        by true = let z = S .no-price p h hp in (omega (arith, z), z .0)
-        by false = S .no-price p h hp
+  -- past the products in use the next prices are 0
+  pub next-none : (p : ℕ) → p < 8 → priceAt a p ≡ 0 → beforeAt a p ≡ 0
+      → (getD (nextPrices a) p 0 ≡ 0) × (getD (nextBefores a) p 0 ≡ 0)
+  next-none p hp x y =
+      rw (
+        list-at priceOf 0 8 p hp,
+        list-at beforeOf 0 8 p hp,
+      ) (by (above (standingOf a p)))
+    where
+      by : (s : Bool) → (cond s (fallen (priceAt a p) (decrementFor (a .terms) (aboveZero (standingOf a p)) (goal p))) (priceAt a p) ≡ 0)
+          × (cond s (priceAt a p) (beforeAt a p) ≡ 0)
+      by true = (omega arith, x)
+      by false = (x, y)

@@ -72,10 +72,10 @@ module _ (a : Auction) (o : Outbid) where
   }
 
   abbrev prices : List ℕ
-  prices = nextPrices a o
+  prices = nextPrices rest
 
   abbrev befores : List ℕ
-  befores = nextBefores a o
+  befores = nextBefores rest
 
   settled-by : (P : Auction → Type 0) (x y : Bool)
       → (x ≡ true → P (with closed (a .round) (a .price) (a .before)))
@@ -203,9 +203,9 @@ module _ (a : Auction) (o : Outbid) where
           some-round = omega arith;
           round = omega (arith, r, S .round);
           within = λ p hp. within-by p hp (ltb (goal p) (held (rest .records) n p)) refl;
-          fell = λ p hp t l. let x = next a o S p hp e .fell l in omega (arith, x);
-          same = λ p hp q. next a o S p hp e .stayed (omega arith);
-          none = next-none a o S;
+          fell = λ p hp t l. let x = next rest (S .limits) p hp (S .prices p hp .0) e .fell l in omega (arith, x);
+          same = λ p hp q. next rest (S .limits) p hp (S .prices p hp .0) e .stayed (omega arith);
+          none = λ p h l. let z = S .no-price p h l in next-none rest (S .limits) p l (z .0) (z .1);
           phase = rw (ne-eqb (a .round + 1) 1 (λ q. omega (arith, S .some-round)))
               (both (lt-ltb 0 (excess rest) h) (implied (eqb (a .round + 1) 2) (nothingKept rest) second));
         }
@@ -218,11 +218,11 @@ module _ (a : Auction) (o : Outbid) where
         within-by : (p : ℕ) → p < m → (s : Bool) → ltb (goal p) (held (rest .records) n p) ≡ s
             → (1 ≤ getD prices p 0) × (getD prices p 0 ≤ getD befores p 0) × (getD befores p 0 ≤ startOf (a .terms) p)
         within-by p hp true f =
-            let x = next a o S p hp e .fell (ltb-true _ _ f) in
+            let x = next rest (S .limits) p hp (S .prices p hp .0) e .fell (ltb-true _ _ f) in
             let y = S .prices p hp in
             (omega (arith, x), omega (arith, x), omega (arith, x, y))
         within-by p hp false f =
-            let x = next a o S p hp e .stayed (ltb-false _ _ f) in
+            let x = next rest (S .limits) p hp (S .prices p hp .0) e .stayed (ltb-false _ _ f) in
             let y = S .prices p hp in
             (omega (arith, x, y), omega (arith, x, y), omega (arith, x, y))
 
@@ -256,7 +256,7 @@ module _ (a : Auction) (o : Outbid) where
     pub settled-prices : (p : ℕ) → p < a .terms .products → PriceAfter a (settled a o) p
     settled-prices p hp =
         settled-each (λ z. PriceAfter a z p) (λ e. rested closed refl) (λ h t. rested stopped refl)
-        (λ h e. open-by (next a o S p hp e) (ltb (goal p) (held (rest .records) n p)) refl)
+        (λ h e. open-by (next rest (S .limits) p hp (S .prices p hp .0) e) (ltb (goal p) (held (rest .records) n p)) refl)
       where
         rested : (ph : ℕ) → eqb ph bidsOpen ≡ false → PriceAfter a (with ph (a .round) (a .price) (a .before)) p
         rested ph e = record {
@@ -267,7 +267,7 @@ module _ (a : Auction) (o : Outbid) where
           ended = λ t. (refl, refl);
         }
 
-        open-by : Priced a p (held (rest .records) n p) (getD prices p 0) (getD befores p 0)
+        open-by : Priced rest p (held (rest .records) n p) (getD prices p 0) (getD befores p 0)
             → (s : Bool) → ltb (goal p) (held (rest .records) n p) ≡ s → PriceAfter a (with bidsOpen (a .round + 1) prices befores) p
         open-by N true f =
             let x = N .fell (ltb-true _ _ f) in record {

@@ -1,20 +1,25 @@
 -- What the laws of one call say, beside the definitions of the calls. Assumes nothing.
 use mathlib.Core.Path.{_≡_}
 use mathlib.Core.Bool.{true, false}
+use mathlib.Core.Logic.{_⊎_}
 use mathlib.Core.List.{List}
-use Prim.Native.Nat.{ℕ, _≤_, _<_}
+use Prim.Native.Nat.{ℕ, _+_, _≤_, _<_, min}
 use lib.ListN.{length}
+use Rattle.rules.specs.declared.Tranches.{Tranches}
 use Rattle.rules.specs.declared.Line.{Line}
 use Rattle.rules.specs.declared.Settings.{Settings}
 use Rattle.rules.specs.declared.Auction.{Auction}
 use Rattle.rules.specs.declared.Answer.the-variants as answer
 use Rattle.rules.specs.declared.Calculation.the-variants as calculation
-use Rattle.rules.specs.Settings.{targetOf}
-use Rattle.rules.specs.Held.{held}
-use Rattle.rules.specs.Bid.{hasFiled, slotOf, priceAt, beforeAt}
+use Rattle.rules.specs.Count.{sumUpTo}
+use Rattle.rules.specs.Answers.{bidsOpen, stopped}
+use Rattle.rules.specs.Settings.{targetOf, startOf}
+use Rattle.rules.specs.Held.{goingIn, deniedIn, retainedIn, exitIn, held, freeOf, eligibility, excess}
+use Rattle.rules.specs.Bid.{hasFiled, slotOf, recordOf, priceAt, beforeAt}
+use Rattle.rules.specs.Cutback.{givenFor, revised}
 use Rattle.rules.specs.Layout.{loaded}
 use Rattle.rules.specs.Standing.{isOpen, stands}
-use Rattle.rules.specs.Calls.{openCall, fileCall, calculateCall, returnCall, writeCall}
+use Rattle.rules.specs.Calls.{openCall, fileCall, calculateCall, cutbackCall, returnCall, writeCall}
 
 -- bytes that are a standing state
 pub record StandsIn (s : List ℕ) : Type 0 where
@@ -27,6 +32,7 @@ pub record RefusedSame (s : List ℕ) (n : ℕ) : Type 0 where
   pub opening : (x : Settings) → openCall s x .answer ≡ answer.Refused n → openCall s x .bytes ≡ s
   pub filing : (c : List ℕ) → fileCall s c .answer ≡ answer.Refused n → fileCall s c .bytes ≡ s
   pub calculating : (draw : List ℕ) → calculateCall s draw .answer ≡ calculation.Refused n → calculateCall s draw .bytes ≡ s
+  pub cutting : (targets caps : List Tranches) → cutbackCall s targets caps .answer ≡ answer.Refused n → cutbackCall s targets caps .bytes ≡ s
   pub returning : returnCall s .answer ≡ answer.Refused n → returnCall s .bytes ≡ s
   pub writing : (m b r : ℕ) (ls : List Line) → writeCall s m b r ls .answer ≡ answer.Refused n → writeCall s m b r ls .bytes ≡ s
 
@@ -45,3 +51,30 @@ pub record PriceAfter (a z : Auction) (p : ℕ) : Type 0 where
   pub stayed : isOpen z ≡ true → held (z .records) (a .terms .bidders) p ≤ targetOf (a .terms) p
       → (priceAt z p ≡ priceAt a p) × (beforeAt z p ≡ beforeAt a p)
   pub ended : isOpen z ≡ false → (priceAt z p ≡ priceAt a p) × (beforeAt z p ≡ beforeAt a p)
+
+-- what a cutback to these targets and caps makes of the auction a: nothing changes but targets, caps, g, f, p, q, and the phase where it
+-- stops; it never closes
+pub record CutOnly (a z : Auction) (targets caps : List Tranches) : Type 0 where
+  pub terms : z .terms ≡ revised (a .terms) targets caps
+  pub round : z .round ≡ a .round
+  pub filed : z .filed ≡ a .filed
+  pub bids : z .bids ≡ a .bids
+  pub phase : (z .phase ≡ bidsOpen) ⊎ (z .phase ≡ stopped)
+  pub going : (b p : ℕ) → b < 32 → p < 8 → goingIn (recordOf z b p) ≡ min (goingIn (recordOf a b p)) (givenFor caps p)
+  pub denied : (b p : ℕ) → b < 32 → p < 8 → deniedIn (recordOf z b p) ≡ deniedIn (recordOf a b p)
+  pub retained : (b p : ℕ) → b < 32 → p < 8 → retainedIn (recordOf z b p) ≡ retainedIn (recordOf a b p)
+  pub exit : (b p : ℕ) → b < 32 → p < 8 → exitIn (recordOf z b p) ≡ exitIn (recordOf a b p)
+  -- "the difference becomes its free eligibility": no bidder's g + f changes, nor its eligibility
+  pub moved : (b : ℕ) → b < a .terms .bidders
+      → sumUpTo (λ p. goingIn (recordOf z b p)) (a .terms .products) + freeOf z b
+      ≡ sumUpTo (λ p. goingIn (recordOf a b p)) (a .terms .products) + freeOf a b
+  pub eligible : (b : ℕ) → b < a .terms .bidders → eligibility z b ≡ eligibility a b
+  pub excess : excess a ≤ excess z
+
+-- the prices of product p after it, from the starting price: q is that price on every product, fallen or not
+pub record CutPrice (a z : Auction) (p : ℕ) : Type 0 where
+  pub before : beforeAt z p ≡ startOf (a .terms) p
+  pub fell : isOpen z ≡ true → targetOf (z .terms) p < held (z .records) (a .terms .bidders) p
+      → (1 ≤ priceAt z p) × (priceAt z p < startOf (a .terms) p)
+  pub stayed : isOpen z ≡ true → held (z .records) (a .terms .bidders) p ≤ targetOf (z .terms) p → priceAt z p ≡ startOf (a .terms) p
+  pub ended : isOpen z ≡ false → priceAt z p ≡ startOf (a .terms) p

@@ -1,0 +1,459 @@
+-- A cutback leaves a standing state standing, and moves what a reduced cap takes off into free eligibility. Assumes nothing.
+use mathlib.Core.Path.{_≡_, refl, sym, _∙_, ap, subst}
+use mathlib.Core.Bool.{Bool, true, false, cond}
+use mathlib.Core.Logic.{_⊎_, inl, inr}
+use mathlib.Core.List.{List}
+use Prim.Native.Nat.{ℕ, zero, suc, _+_, _*_, _-_, _/_, _%_, _^_, _≤_, _<_, min}
+use native.Mathlib.Omega.{arith}
+use native.Mathlib.Nat.{zero-div}
+use borrow.Author.Tests.{eqb-true, eqb-false, eq-eqb, ne-eqb, ltb-true, ltb-false, lt-ltb, le-ltb, le-leb}
+use lib.ListN.{length, getD}
+use lib.Dec.{eqb, ltb}
+use Rattle.rules.specs.declared.Tranches.{Tranches}
+use Rattle.rules.specs.declared.Record.{Record}
+use Rattle.rules.specs.declared.Terms.{Terms}
+use Rattle.rules.specs.declared.Auction.{Auction}
+use Rattle.rules.specs.Count.{sumUpTo, allUpTo, listOf}
+use Rattle.rules.specs.Units.{tranches}
+use Rattle.rules.specs.Answers.{bidsOpen, stopped}
+use Rattle.rules.specs.Settings.{item, noItem, withinLimits, itemWithin, targetOf, capOf, startOf, initialOf}
+use Rattle.rules.specs.Held.{nothing, goingIn, deniedIn, retainedIn, exitIn, heldIn, keptIn, recordAt, setTo, held, aboveZero, standingOf, freeOf, eligibility, excess}
+use Rattle.rules.specs.Bid.{recordOf, priceAt, beforeAt, hasFiled}
+use Rattle.rules.specs.Round.{opensAt, stops}
+use Rattle.rules.specs.Cutback.{givenFor, numbersFit, mayCut, revised, cutFrom, reduced, settledAgain, cutBack}
+use Rattle.rules.specs.Standing.{keptOn, isOpen, recordZero, nothingKept, phaseStands}
+use Rattle.rules.specs.Stands.{Limits, Long, Stands}
+use Rattle.rules.specs.OneCall.{CutOnly, CutPrice}
+use Rattle.rules.proofs.Sums.{sum-ext, sum-le, sum-six, sum-ge, sum-add, sum-zero}
+use Rattle.rules.proofs.Lists.{clash, both, all-give, all-take, list-at, list-long}
+use Rattle.rules.proofs.Signed.{above-zero}
+use Rattle.rules.proofs.Tests.{told, shown}
+use Rattle.rules.proofs.Standing.{limits-take, second-none, later-excess, implied}
+use Rattle.rules.proofs.Offers.{Offers, Backed}
+use Rattle.rules.proofs.Prices.{Priced, nextPrices, nextBefores, next, next-none}
+
+-- a sum of sums in either order
+sum-swap : (f : ℕ → ℕ → ℕ) (m n : ℕ) → sumUpTo (λ b. sumUpTo (λ p. f b p) m) n ≡ sumUpTo (λ p. sumUpTo (λ b. f b p) n) m
+sum-swap f m zero = sym (sum-zero m)
+sum-swap f m (suc n) =
+    let r = sum-swap f m n in
+    let s = sum-add (λ p. sumUpTo (λ b. f b p) n) (λ p. f n p) m in
+    omega arith
+
+-- ---- the revised settings, whatever the numbers
+
+module _ (t : Terms) (targets caps : List Tranches) (p : ℕ) (h : p < 8) where
+  item-is : getD (revised t targets caps .item) p noItem ≡ item (givenFor targets p) (givenFor caps p) (startOf t p)
+  unfolding revised
+  item-is = list-at (λ p. item (givenFor targets p) (givenFor caps p) (startOf t p)) noItem 8 p h
+
+  pub revised-target : targetOf (revised t targets caps) p ≡ givenFor targets p
+  revised-target = ap (λ i. i .target .0) item-is
+
+  pub revised-cap : capOf (revised t targets caps) p ≡ givenFor caps p
+  revised-cap = ap (λ i. i .cap .0) item-is
+
+  pub revised-start : startOf (revised t targets caps) p ≡ startOf t p
+  revised-start = ap (λ i. i .start) item-is
+
+module _ (a : Auction) (targets caps : List Tranches) where
+  abbrev m : ℕ
+  m = a .terms .products
+
+  abbrev n : ℕ
+  n = a .terms .bidders
+
+  abbrev t : Terms
+  t = revised (a .terms) targets caps
+
+  abbrev z : Auction
+  z = reduced a targets caps
+
+  -- ---- the reduced book, whatever the numbers
+
+  record-is : (k : ℕ) → k < 256 → recordAt (z .records) k ≡ setTo (recordAt (a .records) k) (givenFor caps (k % 8))
+  unfolding reduced
+  record-is k h = list-at (λ k. setTo (recordAt (a .records) k) (givenFor caps (k % 8))) nothing 256 k h
+
+  record-of : (b p : ℕ) → b < 32 → p < 8 → recordOf z b p ≡ setTo (recordOf a b p) (givenFor caps p)
+  record-of b p hb hp =
+      let e : (b * 8 + p) % 8 ≡ p = omega arith in
+      record-is (b * 8 + p) (omega arith) ∙ ap (λ q. setTo (recordOf a b p) (givenFor caps q)) e
+
+  free-is : (b : ℕ) → b < 32 → freeOf z b ≡ freeOf a b + cutFrom a caps b
+  unfolding reduced
+  free-is b h = ap (λ f. f .0) (list-at (λ b. tranches (freeOf a b + cutFrom a caps b)) (tranches 0) 32 b h)
+
+  price-is : (p : ℕ) → p < 8 → priceAt z p ≡ startOf (a .terms) p
+  unfolding reduced
+  price-is p h = list-at (startOf (a .terms)) 0 8 p h
+
+  before-is : (p : ℕ) → p < 8 → beforeAt z p ≡ startOf (a .terms) p
+  unfolding reduced
+  before-is p h = list-at (startOf (a .terms)) 0 8 p h
+
+  module _ (L : Limits (a .terms)) where
+    -- what is held of a product, with what was cut there, is what was held
+    held-cut : (p : ℕ) → p < m
+        → held (z .records) n p + sumUpTo (λ b. goingIn (recordOf a b p) - givenFor caps p) n ≡ held (a .records) n p
+    held-cut p hp =
+        let s = sum-six (λ b. heldIn (recordOf z b p)) (λ b. goingIn (recordOf a b p) - givenFor caps p) (λ b. 0)
+        (λ b. heldIn (recordOf a b p)) (λ b. 0) (λ b. 0) n
+        (λ b hb. omega (arith, ap heldIn (record-of b p (omega (arith, L .bidders)) (omega (arith, L .products))))) in
+        omega (arith, sum-zero n)
+
+    -- what a bidder holds, with what was cut, is what it held; so with g alone, and with g and d
+    module _ (f : Record → ℕ) (x : (r : Record) (c : ℕ) → f (setTo r c) + (goingIn r - c) ≡ f r) where
+      row-cut : (b : ℕ) → b < n
+          → sumUpTo (λ p. f (recordOf z b p)) m + freeOf z b ≡ sumUpTo (λ p. f (recordOf a b p)) m + freeOf a b
+      row-cut b hb =
+          let s = sum-six (λ p. f (recordOf z b p)) (λ p. goingIn (recordOf a b p) - givenFor caps p) (λ p. 0)
+          (λ p. f (recordOf a b p)) (λ p. 0) (λ p. 0) m
+          (λ p hp. let e = ap f (record-of b p (omega (arith, L .bidders)) (omega (arith, L .products))) in
+          omega (arith, x (recordOf a b p) (givenFor caps p))) in
+          omega (arith, sum-zero m, free-is b (omega (arith, L .bidders)))
+
+  -- ---- a cutback that may be made
+
+  module _ (S : Stands a) (op : isOpen a ≡ true) (may : mayCut a targets caps ≡ true) where
+    L : Limits (a .terms)
+    L = S .limits
+
+    hm : m ≤ 8
+    hm = L .products
+
+    hn : n ≤ 32
+    hn = L .bidders
+
+    pub cut-second : a .round ≡ 2
+    cut-second = search told
+
+    pub cut-unfiled : a .filed ≡ 0
+    cut-unfiled = search told
+
+    fit : (p : ℕ) → p < 8 → numbersFit (a .terms) targets caps p ≡ true
+    fit = all-take (numbersFit (a .terms) targets caps) 8 (search told)
+
+    -- "none larger than before and none 0, targets still ranked, caps at most targets"
+    pub cut-numbers : (p : ℕ) → p < a .terms .products
+        → (1 ≤ givenFor targets p) × (givenFor targets p ≤ targetOf (a .terms) p) × (1 ≤ givenFor caps p)
+        × (givenFor caps p ≤ capOf (a .terms) p) × (givenFor caps p ≤ givenFor targets p)
+    cut-numbers p h = let x = rw (lt-ltb p m h) at (fit p (omega (arith, hm))) in search told
+
+    cut-ranked : (p : ℕ) → 0 < p → p < m → givenFor targets p ≤ givenFor targets (p - 1)
+    cut-ranked p g h = let x = rw (lt-ltb p m h, ne-eqb p 0 (λ z. omega arith)) at (fit p (omega (arith, hm))) in search told
+
+    cut-past : (p : ℕ) → m ≤ p → p < 8 → (givenFor targets p ≡ 0) × (givenFor caps p ≡ 0)
+    cut-past p h l = let x = rw (le-ltb p m h) at (fit p l) in search told
+
+    -- "settings within limits": the revised numbers in the place of the settings' own
+    item-by : (p : ℕ) → p < 8 → (s u : Bool) → ltb p m ≡ s → eqb p 0 ≡ u → itemWithin t p ≡ true
+    unfolding revised
+    item-by p l true true e f =
+        let h = ltb-true p m e in
+        let x = revised-target (a .terms) targets caps p l in
+        let y = revised-cap (a .terms) targets caps p l in
+        let w = revised-start (a .terms) targets caps p l in
+        let c = cut-numbers p h in
+        let g : givenFor targets p ≤ 200 = omega (arith, c, L .target p h) in
+        let s = L .start p h in
+        rw (e, f, x, y, w) (search shown)
+    item-by p l true false e f =
+        let h = ltb-true p m e in
+        let d = eqb-false p 0 f in
+        let x = revised-target (a .terms) targets caps p l in
+        let x′ = revised-target (a .terms) targets caps (p - 1) (omega arith) in
+        let y = revised-cap (a .terms) targets caps p l in
+        let w = revised-start (a .terms) targets caps p l in
+        let c = cut-numbers p h in
+        let r = cut-ranked p (omega (arith, d)) h in
+        let g : givenFor targets p ≤ 200 = omega (arith, c, L .target p h) in
+        let s = L .start p h in
+        rw (e, f, x, x′, y, w) (search shown)
+    item-by p l false u e f =
+        let h = ltb-false p m e in
+        let c = cut-past p h l in
+        let s = L .no-item p h l in
+        rw (e, revised-target (a .terms) targets caps p l, revised-cap (a .terms) targets caps p l, revised-start (a .terms) targets caps p l)
+        (search shown)
+
+    revised-within : withinLimits t ≡ true
+    unfolding revised
+    revised-within =
+        let w = S .within in
+        let i = all-give (itemWithin t) 8 (λ p l. item-by p l (ltb p m) (eqb p 0) refl refl) in
+        let v = sum-ext (targetOf t) (givenFor targets) m (λ p h. revised-target (a .terms) targets caps p (omega (arith, hm))) in
+        rw v (search (told, shown))
+
+    -- nothing was kept, and nothing is
+    kept-none : (p : ℕ) → p < m → sumUpTo (λ b. keptIn (recordOf z b p)) n ≡ 0
+    kept-none p hp =
+        sum-ext _ _ n (λ b hb. ap keptIn (record-of b p (omega (arith, hn)) (omega (arith, hm)))) ∙ second-none a S op cut-second p hp
+
+    none-kept : (b p : ℕ) → b < n → p < m → keptIn (recordOf z b p) ≡ 0
+    none-kept b p hb hp = let x = sum-ge (λ b. keptIn (recordOf z b p)) n b hb in omega (arith, kept-none p hp)
+
+    -- the revised target is no larger, so that what is above it is, with what was cut, no less than what was above the old one
+    above-more : (p : ℕ) → p < m
+        → held (a .records) n p - targetOf (a .terms) p
+        ≤ held (z .records) n p - targetOf t p + sumUpTo (λ b. goingIn (recordOf a b p) - givenFor caps p) n
+    above-more p hp =
+        omega (arith, held-cut L p hp, cut-numbers p hp, revised-target (a .terms) targets caps p (omega (arith, hm)))
+
+    -- "The auction cannot close here": what is taken off becomes free, and targets only fall
+    excess-more : excess a ≤ excess z
+    unfolding reduced revised
+    excess-more =
+        let c : ℕ → ℕ → ℕ = λ b p. goingIn (recordOf a b p) - givenFor caps p in
+        let x = sum-le (λ p. aboveZero (standingOf a p)) (λ p. aboveZero (standingOf z p) + sumUpTo (λ b. c b p) n) m
+        (λ p hp. omega (
+          arith,
+          above-more p hp,
+          above-zero (held (a .records) n p) (targetOf (a .terms) p),
+          above-zero (held (z .records) n p) (targetOf t p),
+        )) in
+        let y = sum-add (λ p. aboveZero (standingOf z p)) (λ p. sumUpTo (λ b. c b p) n) m in
+        let w = sum-swap c m n in
+        let f = sum-ext (freeOf z) (λ b. freeOf a b + cutFrom a caps b) n (λ b hb. free-is b (omega (arith, hn))) in
+        let g = sum-add (freeOf a) (cutFrom a caps) n in
+        omega arith
+
+    some-excess : 0 < excess z
+    some-excess = omega (arith, excess-more, later-excess a S op (λ e. omega (arith, cut-second)))
+
+    -- ---- it stands
+
+    -- the reduced book in a phase and at prices
+    abbrev with : ℕ → List ℕ → List ℕ → Auction
+    with ph pr be = record {
+      phase = ph;
+      round = a .round;
+      filed = a .filed;
+      terms = t;
+      price = pr;
+      before = be;
+      free = z .free;
+      records = z .records;
+      bids = a .bids;
+    }
+
+    -- what the phase and the prices have to meet
+    record Meets (ph : ℕ) (pr be : List ℕ) : Type 0 where
+      within : (p : ℕ) → p < m → (1 ≤ getD pr p 0) × (getD pr p 0 ≤ getD be p 0) × (getD be p 0 ≤ startOf (a .terms) p)
+      fell : (p : ℕ) → p < m → eqb ph bidsOpen ≡ true → targetOf t p < held (z .records) n p → getD pr p 0 < getD be p 0
+      none : (p : ℕ) → m ≤ p → p < 8 → (getD pr p 0 ≡ 0) × (getD be p 0 ≡ 0)
+      phase : phaseStands (with ph pr be) ≡ true
+
+    zero-set : (r : Record) (c : ℕ) → recordZero r ≡ true → recordZero (setTo r c) ≡ true
+    zero-set r c e =
+        let g : goingIn r ≡ 0 = search told in
+        let d : deniedIn r ≡ 0 = search told in
+        let s : retainedIn r ≡ 0 = search told in
+        let x : exitIn r ≡ 0 = search told in
+        let h : min (goingIn r) c ≡ 0 = omega arith in
+        search shown
+
+    zero-past : (k : ℕ) → k < 256 → recordZero (recordAt (a .records) k) ≡ true → recordZero (recordAt (z .records) k) ≡ true
+    zero-past k h e = rw (record-is k h) (zero-set (recordAt (a .records) k) (givenFor caps (k % 8)) e)
+
+    no-free-past : (b : ℕ) → n ≤ b → b < 32 → freeOf z b ≡ 0
+    no-free-past b h l =
+        let s = sum-ext (λ p. goingIn (recordOf a b p) - givenFor caps p) (λ p. 0) m (λ p hp.
+        let e = S .no-bidder (b * 8 + p) (omega (arith, hm)) (omega (arith, hm)) in
+        let g : goingIn (recordOf a b p) ≡ 0 = search told in
+        omega arith) in
+        omega (arith, free-is b l, S .no-free b h l, sum-zero m)
+
+    unfiled : (b : ℕ) → hasFiled a b ≡ false
+    unfiled b = rw (cut-unfiled, zero-div (2 ^ b)) refl
+
+    stands-with : (ph : ℕ) (pr be : List ℕ) → Meets ph pr be → Stands (with ph pr be)
+    unfolding revised
+    stands-with ph pr be M = record {
+      within = revised-within;
+      limits = limits-take t revised-within;
+      some-round = S .some-round;
+      round = S .round;
+      prices = λ p hp. rw (revised-start (a .terms) targets caps p (omega (arith, hm))) (M .within p hp);
+      fell = M .fell;
+      kept = λ p hp h. absurd (let x : ⊥ = omega (arith, kept-none p hp) in x);
+      no-price = M .none;
+      exits = λ b p hb hp h. absurd (let x : ⊥ = omega (arith, none-kept b p hb hp) in x);
+      no-exit = λ b p hb hp e.
+          let q = record-of b p (omega (arith, hn)) (omega (arith, hm)) in
+          ap exitIn q ∙ S .no-exit b p hb hp (sym (ap retainedIn q) ∙ e);
+      caps = λ b p hb hp.
+          let q = ap heldIn (record-of b p (omega (arith, hn)) (omega (arith, hm))) in
+          let k = ap keptIn (record-of b p (omega (arith, hn)) (omega (arith, hm))) in
+          omega (arith, none-kept b p hb hp, revised-cap (a .terms) targets caps p (omega (arith, hm)));
+      no-bidder = λ k l h. zero-past k l (S .no-bidder k l h);
+      no-product = λ k l h. zero-past k l (S .no-product k l h);
+      eligible = λ b hb. omega (arith, row-cut L heldIn (λ r c. omega arith) b hb, S .eligible b hb);
+      no-free = no-free-past;
+      slots = λ b l. rw (unfiled b) (rw (unfiled b) at (S .slots b l));
+      phase = M .phase;
+    }
+
+    start-some : (p : ℕ) → p < m → 1 ≤ priceAt z p
+    start-some p hp = omega (arith, price-is p (omega (arith, hm)), L .start p hp)
+
+    -- stopped, at the starting prices
+    ends : stops z ≡ true → Meets stopped (z .price) (z .before)
+    unfolding reduced revised
+    ends e = record {
+      within = λ p hp.
+          let x = price-is p (omega (arith, hm)) in
+          let y = before-is p (omega (arith, hm)) in
+          (omega (arith, L .start p hp), omega arith, omega arith);
+      fell = λ p hp t. clash t refl;
+      none = λ p h l. let s = L .no-item p h l in (price-is p l ∙ s .2, before-is p l ∙ s .2);
+      phase = rw (cut-unfiled) (both (lt-ltb 0 (excess z) some-excess) e);
+    }
+
+    next-of : stops z ≡ false → (p : ℕ) → p < m
+        → Priced z p (held (z .records) n p) (getD (nextPrices z) p 0) (getD (nextBefores z) p 0)
+    unfolding reduced revised
+    next-of e p hp = next z (limits-take t revised-within) p hp (start-some p hp) e
+
+    next-before : stops z ≡ false → (p : ℕ) → p < m → (s : Bool) → ltb (targetOf t p) (held (z .records) n p) ≡ s
+        → getD (nextBefores z) p 0 ≡ startOf (a .terms) p
+    unfolding reduced revised
+    next-before e p hp true f = next-of e p hp .fell (ltb-true _ _ f) .2 ∙ price-is p (omega (arith, hm))
+    next-before e p hp false f = next-of e p hp .stayed (ltb-false _ _ f) .1 ∙ before-is p (omega (arith, hm))
+
+    -- open, at the prices worked out from them
+    goes-on : stops z ≡ false → Meets bidsOpen (nextPrices z) (nextBefores z)
+    unfolding reduced revised
+    goes-on e = record {
+      within = λ p hp. within-by p hp (ltb (targetOf t p) (held (z .records) n p)) refl;
+      fell = λ p hp o l. let x = next-of e p hp .fell l in omega (arith, x);
+      none = λ p h l.
+          let s = L .no-item p h l in
+          next-none z (limits-take t revised-within) p l (price-is p l ∙ s .2) (before-is p l ∙ s .2);
+      phase = rw (ne-eqb (a .round) 1 (λ q. omega (arith, cut-second)))
+          (both (lt-ltb 0 (excess z) some-excess) (implied (eqb (a .round) 2) (nothingKept z) (λ _.
+          all-give (λ p. eqb (keptOn z p) 0) m (λ p hp. eq-eqb _ 0 (kept-none p hp)))));
+    }
+      where
+        within-by : (p : ℕ) → p < m → (s : Bool) → ltb (targetOf t p) (held (z .records) n p) ≡ s
+            → (1 ≤ getD (nextPrices z) p 0) × (getD (nextPrices z) p 0 ≤ getD (nextBefores z) p 0) × (getD (nextBefores z) p 0 ≤ startOf (a .terms) p)
+        within-by p hp true f =
+            let x = next-of e p hp .fell (ltb-true _ _ f) in
+            let y = price-is p (omega (arith, hm)) in
+            (omega (arith, x), omega (arith, x), omega (arith, x))
+        within-by p hp false f =
+            let x = next-of e p hp .stayed (ltb-false _ _ f) in
+            let y = price-is p (omega (arith, hm)) in
+            let w = before-is p (omega (arith, hm)) in
+            (omega (arith, x, L .start p hp), omega (arith, x), omega (arith, x))
+
+    -- what holds of both ends holds of the auction cut back
+    cut-each : (P : Auction → Type 0)
+        → (stops z ≡ true → P (with stopped (z .price) (z .before)))
+        → (stops z ≡ false → P (with bidsOpen (nextPrices z) (nextBefores z)))
+        → P (cutBack a targets caps)
+    unfolding cutBack reduced
+    cut-each P f g = by (stops z) refl
+      where
+        by : (s : Bool) → stops z ≡ s → P (cond s z (opensAt (z .round) z))
+        by true e = f e
+        by false e = g e
+
+    -- a cutback leaves what stands standing
+    pub cut-stands : Stands (cutBack a targets caps)
+    cut-stands = cut-each Stands (λ e. stands-with stopped (z .price) (z .before) (ends e)) (λ e. stands-with bidsOpen (nextPrices z) (nextBefores z) (goes-on e))
+
+    -- the lists keep their lengths
+    pub cut-long : Long a → Long (cutBack a targets caps)
+    unfolding reduced revised
+    cut-long K =
+        cut-each Long (λ e. long stopped (z .price) (z .before) (list-long (startOf (a .terms)) 8) (list-long (startOf (a .terms)) 8))
+        (λ e. long bidsOpen (nextPrices z) (nextBefores z) (list-long _ 8) (list-long _ 8))
+      where
+        long : (ph : ℕ) (pr be : List ℕ) → length pr ≡ 8 → length be ≡ 8 → Long (with ph pr be)
+        long ph pr be x y = record {
+          item = list-long (λ p. item (givenFor targets p) (givenFor caps p) (startOf (a .terms) p)) 8;
+          eligibility = K .eligibility;
+          row = K .row;
+          price = x;
+          before = y;
+          free = list-long (λ b. tranches (freeOf a b + cutFrom a caps b)) 32;
+          records = list-long (λ k. setTo (recordAt (a .records) k) (givenFor caps (k % 8))) 256;
+          bids = K .bids;
+        }
+
+    -- ---- what it changes
+
+    pub cut-only : CutOnly a (cutBack a targets caps) targets caps
+    unfolding reduced revised
+    cut-only =
+        cut-each (λ y. CutOnly a y targets caps) (λ e. only stopped (z .price) (z .before) (inr refl))
+        (λ e. only bidsOpen (nextPrices z) (nextBefores z) (inl refl))
+      where
+        only : (ph : ℕ) (pr be : List ℕ) → (ph ≡ bidsOpen) ⊎ (ph ≡ stopped) → CutOnly a (with ph pr be) targets caps
+        only ph pr be h = record {
+          terms = refl;
+          round = refl;
+          filed = refl;
+          bids = refl;
+          phase = h;
+          going = λ b p hb hp. ap goingIn (record-of b p hb hp);
+          denied = λ b p hb hp. ap deniedIn (record-of b p hb hp);
+          retained = λ b p hb hp. ap retainedIn (record-of b p hb hp);
+          exit = λ b p hb hp. ap exitIn (record-of b p hb hp);
+          moved = row-cut L goingIn (λ r c. omega arith);
+          eligible = row-cut L (λ r. goingIn r + deniedIn r) (λ r c. omega arith);
+          excess = excess-more;
+        }
+
+    pub cut-price : (p : ℕ) → p < a .terms .products → CutPrice a (cutBack a targets caps) p
+    unfolding reduced revised
+    cut-price p hp =
+        cut-each (λ y. CutPrice a y p) (λ e. record {
+          before = before-is p (omega (arith, hm));
+          fell = λ o. clash o refl;
+          stayed = λ o. clash o refl;
+          ended = λ o. price-is p (omega (arith, hm));
+        })
+        opened
+      where
+        opened : stops z ≡ false → CutPrice a (with bidsOpen (nextPrices z) (nextBefores z)) p
+        opened e =
+            let N = next-of e p hp in
+            let x = price-is p (omega (arith, hm)) in
+            record {
+              before = next-before e p hp (ltb (targetOf t p) (held (z .records) n p)) refl;
+              fell = λ o l. let v = N .fell l in (v .0, omega (arith, v));
+              stayed = λ o l. N .stayed l .0 ∙ x;
+              ended = λ o. clash refl o;
+            }
+
+    -- q is the starting price, and p too where the product is not above its revised target
+    abbrev Starts : List ℕ → List ℕ → Type 0
+    Starts pr be = (p : ℕ) → p < m
+        → (getD be p 0 ≡ startOf (a .terms) p) × (held (z .records) n p ≤ targetOf t p → getD pr p 0 ≡ startOf (a .terms) p)
+
+    -- an offer before the cutback counts: each g was offered at no more than the starting price, which is now q, and is p where the
+    -- product is not above its revised target; nothing is kept
+    pub cut-offers : (Going Before Exit : Offers) → Backed Going Before Exit a → Backed Going Before Exit (cutBack a targets caps)
+    unfolding reduced revised
+    cut-offers Going Before Exit B =
+        cut-each (Backed Going Before Exit) (λ e. backed stopped (z .price) (z .before) (starts e)) (λ e. backed bidsOpen (nextPrices z) (nextBefores z) (goes e))
+      where
+        starts : stops z ≡ true → Starts (z .price) (z .before)
+        starts e p hp = (before-is p (omega (arith, hm)), λ l. price-is p (omega (arith, hm)))
+
+        goes : stops z ≡ false → Starts (nextPrices z) (nextBefores z)
+        goes e p hp = (next-before e p hp (ltb (targetOf t p) (held (z .records) n p)) refl, λ l. next-of e p hp .stayed l .0 ∙ price-is p (omega (arith, hm)))
+
+        backed : (ph : ℕ) (pr be : List ℕ) → Starts pr be → Backed Going Before Exit (with ph pr be)
+        backed ph pr be s = record {
+          going = λ b p hb hp h.
+              let g = ap goingIn (record-of b p (omega (arith, hn)) (omega (arith, hm))) in
+              let r = B .going b p hb hp (omega arith) in
+              let v = s p hp in
+              let w = S .prices p hp in
+              (r .0, r .1, omega (arith, r .2), r .3, omega (arith, r .4, v, w), λ l. omega (arith, r .4, w, v .1 l));
+          denied = λ b p hb hp h. absurd (let x : ⊥ = omega (arith, none-kept b p hb hp) in x);
+          retained = λ b p hb hp h. absurd (let x : ⊥ = omega (arith, none-kept b p hb hp) in x);
+        }
