@@ -11,8 +11,8 @@ use lib.Dec.{eqb}
 use Rattle.rules.specs.declared.Settings.{Settings}
 use Rattle.rules.specs.Layout.{stateLength}
 use Rattle.rules.specs.Calls.{openNumber, openCall, returnCall}
-use Rattle.rules.proofs.OneCall.{issued-not-standing, open-refused, file-refused, calculate-refused, return-issued, open-stands}
-use Rattle.promises.specs.Runs.{Call, opens, files, counts, calculates, reports, results, reads, writes, after}
+use Rattle.rules.proofs.OneCall.{issued-not-standing, open-refused, file-refused, calculate-refused, cutback-refused, return-issued, open-stands}
+use Rattle.promises.specs.Runs.{Call, opens, files, counts, calculates, cuts, reports, results, reads, writes, suggests, after}
 use Rattle.promises.specs.Hires.{Issued, IssuedOrStanding, Sized, Use, called, returned, used}
 use Rattle.promises.proofs.Steps.{after-stands}
 
@@ -34,10 +34,14 @@ module _ (s : List ℕ) (I : Issued s) where
   issued-after (calculates draw) h =
       let n = issued-not-standing s (I .long) (I .zero) .3 draw in
       stays _ (calculate-refused s draw (λ e. omega arith))
+  issued-after (cuts targets caps) h =
+      let n = issued-not-standing s (I .long) (I .zero) .4 targets caps in
+      stays _ (cutback-refused s targets caps (λ e. omega arith))
   issued-after (reports b) h = inl I
   issued-after results h = inl I
   issued-after (reads c n) h = inl I
   issued-after (writes room n b r ls) h = inl I
+  issued-after (suggests bid ratio) h = inl I
 
 call-keeps : (s : List ℕ) → IssuedOrStanding s → (c : Call) → Sized c → IssuedOrStanding (after s c)
 call-keeps s (inl I) c h = issued-after s I c h

@@ -13,12 +13,13 @@ use Rattle.rules.specs.declared.Terms.{Terms}
 use Rattle.rules.specs.declared.Auction.{Auction}
 use Rattle.rules.specs.Count.{sumUpTo}
 use Rattle.rules.specs.Units.{tranches, amountOf, priceOf, quote}
-use Rattle.rules.specs.Answers.{closed}
+use Rattle.rules.specs.Answers.{bidsOpen, closed, stopped}
 use Rattle.rules.specs.Settings.{termsOf, targetOf}
 use Rattle.rules.specs.Held.{heldIn, recordAt, held}
 use Rattle.rules.specs.Bid.{bidIn, recordOf, bidOn}
 use Rattle.rules.specs.Report.{paidOn, resultOf}
 use Rattle.rules.specs.Round.{calculated}
+use Rattle.rules.specs.Cutback.{cutBack}
 use Rattle.rules.specs.Layout.{loaded}
 use Rattle.rules.specs.Standing.{isOpen}
 use Rattle.rules.specs.Calls.{opened, openNumber, cardNumber, withCard, calculateNumber, closedNumber, resultNumber, resultCall}
@@ -29,12 +30,13 @@ use Rattle.rules.proofs.Bids.{bids-accepted}
 use Rattle.rules.proofs.Calling.{granted}
 use Rattle.rules.proofs.Round.{round-closes}
 use Rattle.rules.proofs.Offers.{closed-within}
+use Rattle.rules.proofs.Cutback.{cut-only}
+use Rattle.rules.specs.Stands.{Stands}
 use Rattle.rules.specs.OneCall.{StandsIn}
-use Rattle.rules.proofs.OneCall.{stood, of-standing, open-stands, open-loaded, open-standing, file-refused, calculate-accepts, calculate-loaded, calculate-refused}
-use Rattle.promises.specs.Runs.{Call, opens, files, counts, calculates, reports, results, reads, writes, after, run, openedBy, filledPart, Round, roundOf}
+use Rattle.rules.proofs.OneCall.{stood, of-standing, open-stands, open-loaded, open-standing, file-refused, calculate-accepts, calculate-loaded, calculate-refused, cutback-accepts, cutback-refused}
+use Rattle.promises.specs.Runs.{Call, opens, files, counts, calculates, cuts, reports, results, reads, writes, suggests, after, run, openedBy, filledPart, Round, roundOf, Cutback, cutbacks, settingsAfter}
 use Rattle.promises.specs.Awards.{Closed, awardOn, paidFor}
-use Rattle.promises.proofs.Promised.{never-falls}
-use Rattle.promises.proofs.Steps.{Step, same, card, round, step, after-stands, run-later, opened-stands, opened-terms}
+use Rattle.promises.proofs.Steps.{Step, same, card, round, cut, step, some-none, after-stands, run-later, run-keeps, parts-later, opened-stands, opened-terms, opened-keeps, in-use}
 use Rattle.promises.specs.Demands.{ClosingBid}
 
 -- ---- the result of a closed state
@@ -93,10 +95,12 @@ module _ (s : List ℕ) (S : StandsIn s) (o : isOpen (loaded s) ≡ false) where
       file-refused s c (λ n. clash (granted (isOpen (loaded s)) _ 3 (omega arith) (sym (of-standing s S 3 (cardNumber c)) ∙ n) .0) o)
   ended-after counts = refl
   ended-after (calculates draw) = calculate-refused s draw (λ n. clash (calculate-accepts s S draw n .0) o)
+  ended-after (cuts targets caps) = cutback-refused s targets caps (λ n. clash (cutback-accepts s S targets caps n .0) o)
   ended-after (reports b) = refl
   ended-after results = refl
   ended-after (reads c n) = refl
   ended-after (writes room n b r ls) = refl
+  ended-after (suggests bid ratio) = refl
 
   pub ended-stays : (cs : List Call) → run s cs ≡ s
   ended-stays [] = refl
@@ -117,17 +121,39 @@ calculation s (opens x) = inl refl
 calculation s (files c) = inl refl
 calculation s counts = inl refl
 calculation s (calculates draw) = calculates-by s draw (eqb (calculateNumber s draw) 0) refl
+calculation s (cuts targets caps) = inl refl
 calculation s (reports b) = inl refl
 calculation s results = inl refl
 calculation s (reads c n) = inl refl
 calculation s (writes room n b r ls) = inl refl
+calculation s (suggests bid ratio) = inl refl
 
--- a call that calculates none leaves the phase
-phase-kept : {a z : Auction} {rs : List Round} → Step a z rs → rs ≡ [] → z .phase ≡ a .phase
+-- a call that calculates none does not close: a cutback leaves bids open, or stops
+not-closed : {a z : Auction} {rs : List Round} {ks : List Cutback} → Stands a → Step a z rs ks → rs ≡ [] → isOpen a ≡ true → z .phase ≡ closed → ⊥
 unfolding withCard
-phase-kept same e = refl
-phase-kept (card b ls) e = refl
-phase-kept (round draw o D) e = let z : _≡_ {A = ℕ} 0 1 = cc in absurd (let x : ⊥ = omega arith in x)
+not-closed {a} S same e o c = let x = eqb-true (a .phase) 1 o in omega arith
+not-closed {a} S (card b ls) e o c = let x = eqb-true (a .phase) 1 o in omega arith
+not-closed {a} S (round draw o D) e _ c = some-none (record { auction = a; draw = draw }) [] e
+not-closed {a} S (cut targets caps o m) e _ c = by (cut-only a targets caps S o m .phase)
+  where
+    by : (cutBack a targets caps .phase ≡ bidsOpen) ⊎ (cutBack a targets caps .phase ≡ stopped) → ⊥
+    by (inl h) = omega arith
+    by (inr h) = omega arith
+
+-- products and bidders in use by another name
+closing-as : (s : List ℕ) (t u : Terms) (cs : List Call) → u .bidders ≡ t .bidders → u .products ≡ t .products → ClosingBid s t cs → ClosingBid s u cs
+closing-as s t u cs hb hp C = record {
+  before = C .before;
+  draw = C .draw;
+  rest = C .rest;
+  split = C .split;
+  bidding = C .bidding;
+  accepted = C .accepted;
+  closing = C .closing;
+  asked = λ b h.
+      subst (λ m. sumUpTo (λ p. bidIn (bidOn (loaded (run s (C .before))) b p)) m ≤ sumUpTo (λ p. awardOn (run s cs) b p) m) (sym hp)
+      (C .asked b (omega arith));
+}
 
 module _ (s : List ℕ) (S : StandsIn s) (o : isOpen (loaded s) ≡ true) where
   -- the calculation that closed, with the calls that follow it
@@ -142,7 +168,7 @@ module _ (s : List ℕ) (S : StandsIn s) (o : isOpen (loaded s) ≡ true) where
       let l = calculate-loaded s S draw n in
       let d = calculate-accepts s S draw n in
       let k = round-closes (loaded s) draw (stood s S) (loaded-long s) (d .0) (d .1) (bids-accepted (loaded s) (stood s S) o) (rw l at w) in
-      let t : loaded q .terms ≡ loaded s .terms = run-later s S (calculates draw ∷ []) .terms in
+      let t : loaded q .terms ≡ loaded s .terms = run-later s S (calculates draw ∷ []) refl .terms in
       let m = ap (λ t. t .products) t in
       let b = ap (λ t. t .bidders) t in
       record {
@@ -184,9 +210,11 @@ closes-by s S o (c ∷ cs) z = by (isOpen (loaded (after s c))) refl (λ o. clos
         → (isOpen (loaded (after s c)) ≡ true → Closed (run (after s c) cs) → ClosingBid (after s c) (loaded (after s c) .terms) cs)
         → Calculates s c → ClosingBid s (loaded s .terms) (c ∷ cs)
     by true e f k =
+        let K = run-keeps s S (c ∷ []) in
         closing-later s c (loaded s .terms) cs
-        (subst (λ t. ClosingBid (after s c) t cs) (run-later s S (c ∷ []) .terms) (f e z))
-    by false e f (inl k) = clash (ap (λ p. eqb p 1) (phase-kept (step s S c) k) ∙ o) e
+        (closing-as (after s c) (loaded (after s c) .terms) (loaded s .terms) cs (sym (K .bidders)) (sym (K .products)) (f e z))
+    by false e f (inl k) =
+        absurd (not-closed (stood s S) (step s S c) k o (subst Closed (ended-stays (after s c) (after-stands s S c) e cs) z))
     by false e f (inr k) =
         subst (λ d. ClosingBid s (loaded s .terms) (d ∷ cs)) (sym (k .1))
         (closing-now s S o (k .0) (k .2) cs (subst (λ d. isOpen (loaded (after s d)) ≡ false) (k .1) e)
@@ -196,21 +224,29 @@ closes-by s S o (c ∷ cs) z = by (isOpen (loaded (after s c))) refl (λ o. clos
 
 module _ (s : List ℕ) (x : Settings) (new : openNumber s x ≡ 0) (e : length (x .eligibility) ≡ 32) (r : length (x .row) ≡ 8)
     (cs : List Call) where
-  -- "no award passes a target"
+  -- "no award passes a target": the target as revised
   pub no-award-over-target : Closed (run (openedBy s x) cs) → (p : ℕ) → p < termsOf x .products
-      → sumUpTo (λ b. awardOn (run (openedBy s x) cs) b p) (termsOf x .bidders) ≤ targetOf (termsOf x) p
-  no-award-over-target c = rw (opened-terms s x new e r cs) at (awards-within _ (opened-stands s x new e r cs) c)
+      → sumUpTo (λ b. awardOn (run (openedBy s x) cs) b p) (termsOf x .bidders) ≤ targetOf (settingsAfter s x cs) p
+  no-award-over-target c p h =
+      let t = opened-terms s x new e r cs in
+      let n = ap (λ t. t .bidders) t ∙ opened-keeps s x new e r cs .bidders in
+      let g = ap (λ t. targetOf t p) t in
+      let w = rw n at (awards-within _ (opened-stands s x new e r cs) c p (in-use s x new e r cs p h)) in
+      omega arith
 
-  -- "a product once filled is awarded exactly its target"
-  pub once-filled : (ds : List Call) → Closed (run (openedBy s x) (cs ++ ds)) → (p : ℕ) → p < termsOf x .products
-      → filledPart (loaded (run (openedBy s x) cs)) p ≡ targetOf (termsOf x) p
-      → sumUpTo (λ b. awardOn (run (openedBy s x) (cs ++ ds)) b p) (termsOf x .bidders) ≡ targetOf (termsOf x) p
-  once-filled ds c p h f =
-      let t = opened-terms s x new e r (cs ++ ds) in
-      let m = ap (λ t. t .products) t in
-      let v = ap (λ t. targetOf t p) t in
-      let n = never-falls s x new e r cs ds p h in
-      rw t at (awards-filled _ (opened-stands s x new e r (cs ++ ds)) c p (omega arith) (omega arith))
+  -- "a product once filled is awarded exactly its target": filled in any state since the last cutback
+  pub once-filled : (ds : List Call) → cutbacks (run (openedBy s x) cs) ds ≡ [] → Closed (run (openedBy s x) (cs ++ ds))
+      → (p : ℕ) → p < termsOf x .products
+      → filledPart (loaded (run (openedBy s x) cs)) p ≡ targetOf (settingsAfter s x cs) p
+      → sumUpTo (λ b. awardOn (run (openedBy s x) (cs ++ ds)) b p) (termsOf x .bidders) ≡ targetOf (settingsAfter s x cs) p
+  once-filled ds u c p h f =
+      let A = parts-later (openedBy s x) (open-stands s x new e r) cs ds u in
+      let t = A .terms ∙ opened-terms s x new e r cs in
+      let n = ap (λ t. t .bidders) t ∙ opened-keeps s x new e r cs .bidders in
+      let g = ap (λ t. targetOf t p) t in
+      let w = rw n at (awards-filled _ (opened-stands s x new e r (cs ++ ds)) c p (in-use s x new e r (cs ++ ds) p h)
+      (omega (arith, A .filled p (in-use s x new e r cs p h)))) in
+      omega arith
 
   -- "each bidder wins in total at least what its closing bid asked"
   pub closing-bid : Closed (run (openedBy s x) cs) → ClosingBid (openedBy s x) (termsOf x) cs

@@ -1,8 +1,8 @@
 -- Prices along a run of calls. Assumes nothing.
-use mathlib.Core.Path.{_≡_, refl, ap}
+use mathlib.Core.Path.{_≡_, refl, _∙_, ap}
 use mathlib.Core.Bool.{Bool, true, false}
 use mathlib.Core.Logic.{_⊎_, inl, inr, _↔_}
-use mathlib.Core.List.{List, _++_}
+use mathlib.Core.List.{List, [], _++_}
 use Prim.Native.Nat.{ℕ, _≤_, _<_}
 use native.Mathlib.Omega.{arith}
 use borrow.Author.Tests.{ltb-true, ltb-false}
@@ -23,8 +23,8 @@ use Rattle.rules.proofs.Bids.{bids-accepted}
 use Rattle.rules.specs.OneCall.{PriceAfter, StandsIn}
 use Rattle.rules.proofs.Round.{round-prices}
 use Rattle.rules.proofs.OneCall.{stood, open-stands, calculate-accepts, calculate-loaded}
-use Rattle.promises.specs.Runs.{Call, after, run, openedBy, Round}
-use Rattle.promises.proofs.Steps.{Step, same, card, round, step, opened-stands, opened-terms, parts-later}
+use Rattle.promises.specs.Runs.{Call, after, run, openedBy, Round, Cutback, cutbackOf, cutbacks}
+use Rattle.promises.proofs.Steps.{Step, same, card, round, cut, step, some-none, opened-stands, opened-terms, opened-keeps, in-use, parts-later}
 
 -- ---- one calculation
 
@@ -49,7 +49,7 @@ module _ (s : List ℕ) (S : StandsIn s) (draw : List ℕ) (n : calculateNumber 
       ↔ (targetOf (loaded s .terms) p < held (loaded (calculateCall s draw .bytes) .records) (loaded s .terms .bidders) p)
   price-falls o = (falls-by o _ refl, λ l. priced .fell o l .0)
 
--- ---- any call
+-- ---- any call but an accepted cutback, whose prices are worked out afresh
 
 -- "the price q before its latest fall": a price falls, and q is the price that stood; or both stay
 abbrev pub FallsOrStays : Auction → Auction → ℕ → Type 0
@@ -62,14 +62,16 @@ after-by a z p A true true e f = inl (A .fell e (ltb-true _ _ f))
 after-by a z p A true false e f = inr (A .stayed e (ltb-false _ _ f))
 after-by a z p A false u e f = inr (A .ended e)
 
-step-price : {a z : Auction} {rs : List Round} → Stands a → Long a → Step a z rs → (p : ℕ) → p < a .terms .products → FallsOrStays a z p
+step-price : {a z : Auction} {rs : List Round} {ks : List Cutback} → Stands a → Long a → Step a z rs ks → ks ≡ [] → (p : ℕ)
+    → p < a .terms .products → FallsOrStays a z p
 unfolding withCard
-step-price S L same p h = inr (refl, refl)
-step-price S L (card b ls) p h = inr (refl, refl)
-step-price {a} S L (round draw o D) p h =
+step-price S L same e p h = inr (refl, refl)
+step-price S L (card b ls) e p h = inr (refl, refl)
+step-price S L (cut targets caps o m) e p h = some-none (record { targets = targets; caps = caps }) [] e
+step-price {a} S L (round draw o D) e p h =
     after-by a (calculated a draw .auction) p (round-prices a draw S L o D (bids-accepted a S o) p h) _ _ refl refl
 
-pub price-before : (s : List ℕ) → StandsIn s → (c : Call) (p : ℕ) → p < loaded s .terms .products
+pub price-before : (s : List ℕ) → StandsIn s → (c : Call) → cutbackOf s c ≡ [] → (p : ℕ) → p < loaded s .terms .products
     → FallsOrStays (loaded s) (loaded (after s c)) p
 price-before s S c = step-price (stood s S) (loaded-long s) (step s S c)
 
@@ -77,16 +79,19 @@ price-before s S c = step-price (stood s S) (loaded-long s) (step s S c)
 
 module _ (s : List ℕ) (x : Settings) (new : openNumber s x ≡ 0) (e : length (x .eligibility) ≡ 32) (r : length (x .row) ≡ 8)
     (cs : List Call) where
-  -- no price ever rises
-  pub no-price-rises : (ds : List Call) (p : ℕ) → p < termsOf x .products
+  -- no price rises over calls with no accepted cutback among them
+  pub no-price-rises : (ds : List Call) → cutbacks (run (openedBy s x) cs) ds ≡ [] → (p : ℕ) → p < termsOf x .products
       → priceAt (loaded (run (openedBy s x) (cs ++ ds))) p ≤ priceAt (loaded (run (openedBy s x) cs)) p
-  no-price-rises ds p h =
-      let t = ap (λ t. t .products) (opened-terms s x new e r cs) in
-      parts-later (openedBy s x) (open-stands s x new e r) cs ds .price p (omega arith)
+  no-price-rises ds u p h = parts-later (openedBy s x) (open-stands s x new e r) cs ds u .price p (in-use s x new e r cs p h)
 
   -- it is never below 1, nor above q, and q never above the starting price
   pub price-within : (p : ℕ) → p < termsOf x .products
       → (1 ≤ priceAt (loaded (run (openedBy s x) cs)) p)
       × (priceAt (loaded (run (openedBy s x) cs)) p ≤ beforeAt (loaded (run (openedBy s x) cs)) p)
       × (beforeAt (loaded (run (openedBy s x) cs)) p ≤ startOf (termsOf x) p)
-  price-within = rw (opened-terms s x new e r cs) at (stood _ (opened-stands s x new e r cs) .prices)
+  price-within p h =
+      let S = opened-stands s x new e r cs in
+      let i = in-use s x new e r cs p h in
+      let t = ap (λ t. startOf t p) (opened-terms s x new e r cs)
+      ∙ opened-keeps s x new e r cs .start p (omega (arith, stood _ S .limits .products)) in
+      omega (arith, stood _ S .prices p i)

@@ -17,13 +17,14 @@ use Rattle.rules.specs.Stands.{Stands, Long}
 use Rattle.rules.proofs.Storing.{loaded-long}
 use Rattle.rules.proofs.Opening.{blank}
 use Rattle.rules.proofs.Bids.{bids-accepted}
+use Rattle.rules.proofs.Cutback.{cut-offers}
 use Rattle.rules.proofs.Offers.{Backed, round-offers, award-going, award-denied, award-retained}
 use Rattle.rules.specs.OneCall.{StandsIn}
 use Rattle.rules.proofs.OneCall.{stood, open-stands, open-loaded}
-use Rattle.promises.specs.Runs.{Call, after, run, openedBy, Round, roundOf, rounds}
+use Rattle.promises.specs.Runs.{Call, after, run, openedBy, Round, roundOf, rounds, Cutback}
 use Rattle.promises.specs.Offered.{InSome, InLast, BeforeLast, OfferedGoing, OfferedBefore, OfferedAtExit}
 use Rattle.promises.specs.Awards.{Closed}
-use Rattle.promises.proofs.Steps.{Step, same, card, round, step, after-stands, opened-stands, opened-terms}
+use Rattle.promises.proofs.Steps.{Step, same, card, round, cut, step, after-stands, opened-stands, in-use, bidding}
 use Rattle.promises.proofs.Closing.{award-is, paid-is}
 use Rattle.promises.specs.Demands.{AwardOffered}
 
@@ -65,11 +66,12 @@ module _ (P : Round → Type 0) where
 abbrev BackedBy : List Round → Auction → Type 0
 BackedBy rs a = Backed (OfferedGoing rs) (OfferedBefore rs) (OfferedAtExit rs) a
 
-step-backed : {a z : Auction} {rs : List Round} → Stands a → Long a → Step a z rs → (past : List Round)
+step-backed : {a z : Auction} {rs : List Round} {ks : List Cutback} → Stands a → Long a → Step a z rs ks → (past : List Round)
     → BackedBy past a → BackedBy (past ++ rs) z
 unfolding withCard
 step-backed {a} S L same past B = rw append-nil B
 step-backed {a} S L (card b ls) past B = rw append-nil (record { going = B .going; denied = B .denied; retained = B .retained })
+step-backed {a} S L (cut targets caps o m) past B = rw append-nil (cut-offers a targets caps S o m _ _ _ B)
 step-backed {a} S L (round draw o D) past B =
     let r : Round = record { auction = a; draw = draw } in
     round-offers a draw S L o D (bids-accepted a S o)
@@ -116,6 +118,6 @@ module _ (s : List ℕ) (x : Settings) (new : openNumber s x ≡ 0) (e : length 
   -- "every awarded tranche had been offered by that bidder, .. at no more than the price it is paid"
   pub every-award-offered : Closed (run (openedBy s x) cs) → (b p : ℕ) → b < termsOf x .bidders → p < termsOf x .products
       → AwardOffered (rounds (openedBy s x) cs) (run (openedBy s x) cs) b p
-  every-award-offered c =
+  every-award-offered c b p hb hp =
       let B = run-backed (openedBy s x) (open-stands s x new e r) cs [] (rw (open-loaded s x new e r) (opened-backed (termsOf x))) in
-      rw (opened-terms s x new e r cs) at (awards-offered _ (opened-stands s x new e r cs) (rounds (openedBy s x) cs) B c)
+      awards-offered _ (opened-stands s x new e r cs) (rounds (openedBy s x) cs) B c b p (bidding s x new e r cs b hb) (in-use s x new e r cs p hp)

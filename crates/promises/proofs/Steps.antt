@@ -7,59 +7,77 @@ use native.Mathlib.Omega.{arith}
 use borrow.Author.Tests.{eqb-true, eqb-false}
 use lib.ListN.{length}
 use lib.Dec.{eqb}
+use Rattle.rules.specs.declared.Tranches.{Tranches}
 use Rattle.rules.specs.declared.Line.{Line}
 use Rattle.rules.specs.declared.Settings.{Settings}
+use Rattle.rules.specs.declared.Terms.{Terms}
 use Rattle.rules.specs.declared.Auction.{Auction}
 use Rattle.rules.specs.Settings.{termsOf, targetOf}
 use Rattle.rules.specs.Held.{held}
 use Rattle.rules.specs.Bid.{priceAt}
 use Rattle.rules.specs.Round.{drawFits, calculated}
+use Rattle.rules.specs.Cutback.{mayCut, revised, cutBack}
 use Rattle.rules.specs.Layout.{loaded}
 use Rattle.rules.specs.Standing.{isOpen}
-use Rattle.rules.specs.Calls.{opened, openNumber, fileNumber, fileCall, withCard, calculateNumber, calculateCall}
+use Rattle.rules.specs.Calls.{opened, openNumber, fileNumber, fileCall, withCard, calculateNumber, calculateCall, cutbackNumber, cutbackCall}
 use Rattle.rules.specs.Stands.{Stands, Long}
 use Rattle.rules.proofs.Storing.{loaded-long}
 use Rattle.rules.proofs.Bids.{bids-accepted}
 use Rattle.rules.proofs.Round.{round-terms, round-filled, round-prices}
+use Rattle.rules.proofs.Cutback.{revised-target, revised-cap, revised-start, cut-numbers, cut-only}
 use Rattle.rules.specs.OneCall.{StandsIn}
-use Rattle.rules.proofs.OneCall.{stood, open-stands, open-loaded, open-standing, file-loaded, file-refused, file-stands, calculate-accepts, calculate-loaded, calculate-refused, calculate-stands}
-use Rattle.promises.specs.Runs.{Call, opens, files, counts, calculates, reports, results, reads, writes, after, run, openedBy, filledPart, Round, roundOf}
+use Rattle.rules.proofs.OneCall.{stood, open-stands, open-loaded, open-standing, file-loaded, file-refused, file-stands, calculate-accepts, calculate-loaded, calculate-refused, calculate-stands, cutback-accepts, cutback-loaded, cutback-refused, cutback-stands}
+use Rattle.promises.specs.Runs.{Call, opens, files, counts, calculates, cuts, reports, results, reads, writes, suggests, after, run, openedBy, filledPart, Round, roundOf, Cutback, cutbackOf, cutbacks, revisedBy, settingsAfter}
+use Rattle.promises.specs.Demands.{KeptBut}
 
 -- ---- one call
 
--- what a call makes of the auction a, with the round that it calculates: nothing, a card more, or the auction after that round
-pub data Step (a : Auction) : Auction → List Round → Type 0 where
-  same : Step a a []
-  card : (b : ℕ) (ls : List Line) → Step a (withCard a b ls) []
+-- what a call makes of the auction a, with the round that it calculates and the cutback that it is: nothing, a card more, the auction
+-- after that round, or the auction cut back
+pub data Step (a : Auction) : Auction → List Round → List Cutback → Type 0 where
+  same : Step a a [] []
+  card : (b : ℕ) (ls : List Line) → Step a (withCard a b ls) [] []
   round : (draw : List ℕ) → isOpen a ≡ true → drawFits (a .terms .bidders) draw ≡ true
-      → Step a (calculated a draw .auction) (record { auction = a; draw = draw } ∷ [])
+      → Step a (calculated a draw .auction) (record { auction = a; draw = draw } ∷ []) []
+  cut : (targets caps : List Tranches) → isOpen a ≡ true → mayCut a targets caps ≡ true
+      → Step a (cutBack a targets caps) [] (record { targets = targets; caps = caps } ∷ [])
 
 module _ (s : List ℕ) (S : StandsIn s) where
   -- the same bytes, the same auction
-  stays : (t : List ℕ) → t ≡ s → Step (loaded s) (loaded t) []
+  stays : (t : List ℕ) → t ≡ s → Step (loaded s) (loaded t) [] []
   stays t e = rw e same
 
-  file-step : (c : List ℕ) (t : Bool) → eqb (fileNumber s c) 0 ≡ t → Step (loaded s) (loaded (fileCall s c .bytes)) []
+  file-step : (c : List ℕ) (t : Bool) → eqb (fileNumber s c) 0 ≡ t → Step (loaded s) (loaded (fileCall s c .bytes)) [] []
   file-step c true e = rw (file-loaded s S c (eqb-true (fileNumber s c) 0 e)) (card _ _)
   file-step c false e = stays _ (file-refused s c (eqb-false (fileNumber s c) 0 e))
 
   calculate-step : (draw : List ℕ) (t : Bool) → eqb (calculateNumber s draw) 0 ≡ t
-      → Step (loaded s) (loaded (calculateCall s draw .bytes)) (cond t (record { auction = loaded s; draw = draw } ∷ []) [])
+      → Step (loaded s) (loaded (calculateCall s draw .bytes)) (cond t (record { auction = loaded s; draw = draw } ∷ []) []) []
   calculate-step draw true e =
       let n = eqb-true (calculateNumber s draw) 0 e in
       let o = calculate-accepts s S draw n in
       rw (calculate-loaded s S draw n) (round draw (o .0) (o .1))
   calculate-step draw false e = stays _ (calculate-refused s draw (eqb-false (calculateNumber s draw) 0 e))
 
-  pub step : (c : Call) → Step (loaded s) (loaded (after s c)) (roundOf s c)
+  cutback-step : (targets caps : List Tranches) (t : Bool) → eqb (cutbackNumber s targets caps) 0 ≡ t
+      → Step (loaded s) (loaded (cutbackCall s targets caps .bytes)) [] (cond t (record { targets = targets; caps = caps } ∷ []) [])
+  cutback-step targets caps true e =
+      let n = eqb-true (cutbackNumber s targets caps) 0 e in
+      let o = cutback-accepts s S targets caps n in
+      rw (cutback-loaded s S targets caps n) (cut targets caps (o .0) (o .1))
+  cutback-step targets caps false e = stays _ (cutback-refused s targets caps (eqb-false (cutbackNumber s targets caps) 0 e))
+
+  pub step : (c : Call) → Step (loaded s) (loaded (after s c)) (roundOf s c) (cutbackOf s c)
   step (opens x) = stays _ (open-standing s x S .1)
   step (files c) = file-step c (eqb (fileNumber s c) 0) refl
   step counts = same
   step (calculates draw) = calculate-step draw (eqb (calculateNumber s draw) 0) refl
+  step (cuts targets caps) = cutback-step targets caps (eqb (cutbackNumber s targets caps) 0) refl
   step (reports b) = same
   step results = same
   step (reads c n) = same
   step (writes room n b r ls) = same
+  step (suggests bid ratio) = same
 
   -- no call stops a standing state from standing
   pub after-stands : (c : Call) → StandsIn (after s c)
@@ -67,12 +85,46 @@ module _ (s : List ℕ) (S : StandsIn s) where
   after-stands (files c) = file-stands s S c
   after-stands counts = S
   after-stands (calculates draw) = calculate-stands s S draw
+  after-stands (cuts targets caps) = cutback-stands s S targets caps
   after-stands (reports b) = S
   after-stands results = S
   after-stands (reads c n) = S
   after-stands (writes room n b r ls) = S
+  after-stands (suggests bid ratio) = S
 
--- ---- what no call undoes
+-- ---- settings that are kept but for targets and caps
+
+kept-same : (t : Terms) → KeptBut t t
+kept-same t = record {
+  unit = refl;
+  products = refl;
+  bidders = refl;
+  rows = refl;
+  statewide = refl;
+  eligibility = refl;
+  row = refl;
+  start = λ p h. refl;
+  target = λ p h. omega arith;
+  cap = λ p h. omega arith;
+}
+
+kept-on : {t u v : Terms} → KeptBut t u → KeptBut u v → KeptBut t v
+kept-on A B =
+    let m = A .products in
+    record {
+      unit = B .unit ∙ A .unit;
+      products = B .products ∙ A .products;
+      bidders = B .bidders ∙ A .bidders;
+      rows = B .rows ∙ A .rows;
+      statewide = B .statewide ∙ A .statewide;
+      eligibility = B .eligibility ∙ A .eligibility;
+      row = B .row ∙ A .row;
+      start = λ p h. B .start p h ∙ A .start p h;
+      target = λ p h. omega (arith, A .target p h, B .target p (omega arith));
+      cap = λ p h. omega (arith, A .cap p h, B .cap p (omega arith));
+    }
+
+-- ---- what no call but a cutback undoes
 
 -- z comes after a: the same terms; the filled part of no product is less, no price more
 pub record Later (a z : Auction) : Type 0 where
@@ -92,11 +144,15 @@ later-on a y z A B =
       price = λ p h. omega (arith, A .price p h, B .price p (omega arith));
     }
 
-step-later : {a z : Auction} {rs : List Round} → Stands a → Long a → Step a z rs → Later a z
+-- one is not none
+pub some-none : {A B : Type 0} (x : A) (xs : List A) → x ∷ xs ≡ [] → B
+some-none x xs e = let z : _≡_ {A = ℕ} 0 1 = cc in absurd (let f : ⊥ = omega arith in f)
+
+step-later : {a z : Auction} {rs : List Round} {ks : List Cutback} → Stands a → Long a → Step a z rs ks → ks ≡ [] → Later a z
 unfolding withCard
-step-later {a} S L same = later-same a
-step-later {a} S L (card b ls) = record { terms = refl; filled = λ p h. omega arith; price = λ p h. omega arith }
-step-later {a} S L (round draw o D) =
+step-later {a} S L same e = later-same a
+step-later {a} S L (card b ls) e = record { terms = refl; filled = λ p h. omega arith; price = λ p h. omega arith }
+step-later {a} S L (round draw o D) _ =
     let A = bids-accepted a S o in
     let e = round-terms a draw S L o D A in
     let r = calculated a draw .auction .records in
@@ -107,6 +163,36 @@ step-later {a} S L (round draw o D) =
           (omega (arith, round-filled a draw S L o D A p (filledPart a p) h (omega arith) (omega arith)));
       price = λ p h. round-prices a draw S L o D A p h .no-rise;
     }
+step-later {a} S L (cut targets caps o m) e = some-none (record { targets = targets; caps = caps }) [] e
+
+-- ---- the settings: a cutback revises targets and caps, and nothing else changes one
+
+step-terms : {a z : Auction} {rs : List Round} {ks : List Cutback} → Stands a → Long a → Step a z rs ks → z .terms ≡ revisedBy (a .terms) ks
+unfolding withCard
+step-terms S L same = refl
+step-terms S L (card b ls) = refl
+step-terms {a} S L (round draw o D) = round-terms a draw S L o D (bids-accepted a S o)
+step-terms {a} S L (cut targets caps o m) = cut-only a targets caps S o m .terms
+
+step-keeps : {a z : Auction} {rs : List Round} {ks : List Cutback} → Stands a → Long a → Step a z rs ks → KeptBut (a .terms) (z .terms)
+unfolding withCard revised
+step-keeps {a} S L same = kept-same (a .terms)
+step-keeps {a} S L (card b ls) = kept-same (a .terms)
+step-keeps {a} S L (round draw o D) = rw (round-terms a draw S L o D (bids-accepted a S o)) (kept-same (a .terms))
+step-keeps {a} S L (cut targets caps o m) =
+    let t = a .terms in
+    rw (cut-only a targets caps S o m .terms) (record {
+      unit = refl;
+      products = refl;
+      bidders = refl;
+      rows = refl;
+      statewide = refl;
+      eligibility = refl;
+      row = refl;
+      start = λ p h. revised-start t targets caps p h;
+      target = λ p h. omega (arith, cut-numbers a targets caps S o m p h, revised-target t targets caps p (omega (arith, S .limits .products)));
+      cap = λ p h. omega (arith, cut-numbers a targets caps S o m p h, revised-cap t targets caps p (omega (arith, S .limits .products)));
+    })
 
 -- ---- a run of calls
 
@@ -120,15 +206,39 @@ pub run-stands : (s : List ℕ) → StandsIn s → (cs : List Call) → StandsIn
 run-stands s S [] = S
 run-stands s S (c ∷ cs) = run-stands (after s c) (after-stands s S c) cs
 
-pub run-later : (s : List ℕ) → StandsIn s → (cs : List Call) → Later (loaded s) (loaded (run s cs))
-run-later s S [] = later-same (loaded s)
-run-later s S (c ∷ cs) =
-    later-on (loaded s) (loaded (after s c)) (loaded (run (after s c) cs)) (step-later (stood s S) (loaded-long s) (step s S c))
-    (run-later (after s c) (after-stands s S c) cs)
+revised-on : (t : Terms) (js ks : List Cutback) → revisedBy t (js ++ ks) ≡ revisedBy (revisedBy t js) ks
+revised-on t [] ks = refl
+revised-on t (j ∷ js) ks = revised-on (revised t (j .targets) (j .caps)) js ks
+
+pub run-terms : (s : List ℕ) → StandsIn s → (cs : List Call) → loaded (run s cs) .terms ≡ revisedBy (loaded s .terms) (cutbacks s cs)
+run-terms s S [] = refl
+run-terms s S (c ∷ cs) =
+    run-terms (after s c) (after-stands s S c) cs
+    ∙ ap (λ t. revisedBy t (cutbacks (after s c) cs)) (step-terms (stood s S) (loaded-long s) (step s S c))
+    ∙ sym (revised-on (loaded s .terms) (cutbackOf s c) (cutbacks (after s c) cs))
+
+pub run-keeps : (s : List ℕ) → StandsIn s → (cs : List Call) → KeptBut (loaded s .terms) (loaded (run s cs) .terms)
+run-keeps s S [] = kept-same (loaded s .terms)
+run-keeps s S (c ∷ cs) =
+    kept-on (step-keeps (stood s S) (loaded-long s) (step s S c)) (run-keeps (after s c) (after-stands s S c) cs)
+
+-- where the whole has none, neither part has one
+none-left : {A : Type 0} (xs ys : List A) → xs ++ ys ≡ [] → (xs ≡ []) × (ys ≡ [])
+none-left [] ys e = (refl, e)
+none-left (x ∷ xs) ys e = some-none x (xs ++ ys) e
+
+-- with no cutback accepted
+pub run-later : (s : List ℕ) → StandsIn s → (cs : List Call) → cutbacks s cs ≡ [] → Later (loaded s) (loaded (run s cs))
+run-later s S [] e = later-same (loaded s)
+run-later s S (c ∷ cs) e =
+    let n = none-left (cutbackOf s c) (cutbacks (after s c) cs) e in
+    later-on (loaded s) (loaded (after s c)) (loaded (run (after s c) cs)) (step-later (stood s S) (loaded-long s) (step s S c) (n .0))
+    (run-later (after s c) (after-stands s S c) cs (n .1))
 
 -- the second part of a run comes after the first
-pub parts-later : (s : List ℕ) → StandsIn s → (cs ds : List Call) → Later (loaded (run s cs)) (loaded (run s (cs ++ ds)))
-parts-later s S cs ds = rw (run-on s cs ds) (run-later (run s cs) (run-stands s S cs) ds)
+pub parts-later : (s : List ℕ) → StandsIn s → (cs ds : List Call) → cutbacks (run s cs) ds ≡ []
+    → Later (loaded (run s cs)) (loaded (run s (cs ++ ds)))
+parts-later s S cs ds e = rw (run-on s cs ds) (run-later (run s cs) (run-stands s S cs) ds e)
 
 -- ---- from an opening
 
@@ -137,7 +247,26 @@ module _ (s : List ℕ) (x : Settings) (new : openNumber s x ≡ 0) (e : length 
   pub opened-stands : (cs : List Call) → StandsIn (run (openedBy s x) cs)
   opened-stands = run-stands (openedBy s x) (open-stands s x new e r)
 
-  -- of the terms that were opened
-  pub opened-terms : (cs : List Call) → loaded (run (openedBy s x) cs) .terms ≡ termsOf x
+  -- of the settings that were opened, with the targets and caps of each cutback accepted since,
+  pub opened-terms : (cs : List Call) → loaded (run (openedBy s x) cs) .terms ≡ settingsAfter s x cs
   unfolding opened
-  opened-terms cs = run-later (openedBy s x) (open-stands s x new e r) cs .terms ∙ ap (λ a. a .terms) (open-loaded s x new e r)
+  opened-terms cs =
+      run-terms (openedBy s x) (open-stands s x new e r) cs
+      ∙ ap (λ a. revisedBy (a .terms) (cutbacks (openedBy s x) cs)) (open-loaded s x new e r)
+
+  -- and of no other: every other setting stays, and no target or cap is larger than opened
+  pub opened-keeps : (cs : List Call) → KeptBut (termsOf x) (settingsAfter s x cs)
+  unfolding opened
+  opened-keeps cs =
+      rw (opened-terms cs, open-loaded s x new e r) at (run-keeps (openedBy s x) (open-stands s x new e r) cs)
+
+  -- products and bidders are those opened
+  pub in-use : (cs : List Call) (p : ℕ) → p < termsOf x .products → p < loaded (run (openedBy s x) cs) .terms .products
+  in-use cs p h =
+      let t = ap (λ t. t .products) (opened-terms cs) in
+      omega (arith, opened-keeps cs .products)
+
+  pub bidding : (cs : List Call) (b : ℕ) → b < termsOf x .bidders → b < loaded (run (openedBy s x) cs) .terms .bidders
+  bidding cs b h =
+      let t = ap (λ t. t .bidders) (opened-terms cs) in
+      omega (arith, opened-keeps cs .bidders)

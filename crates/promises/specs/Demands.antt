@@ -6,6 +6,7 @@ use Prim.Native.Nat.{ℕ, _+_, _≤_, _<_}
 use Rattle.rules.specs.declared.Terms.{Terms}
 use Rattle.rules.specs.Count.{sumUpTo}
 use Rattle.rules.specs.Answers.{Outcome}
+use Rattle.rules.specs.Settings.{targetOf, capOf, startOf}
 use Rattle.rules.specs.Held.{goingIn, deniedIn, retainedIn}
 use Rattle.rules.specs.Bid.{bidIn, recordOf, bidOn}
 use Rattle.rules.specs.Layout.{loaded}
@@ -14,6 +15,19 @@ use Rattle.rules.specs.Calls.{calculateNumber}
 use Rattle.promises.specs.Runs.{Call, calculates, after, run, Round}
 use Rattle.promises.specs.Offered.{OfferedGoing, OfferedBefore, OfferedAtExit}
 use Rattle.promises.specs.Awards.{Closed, awardOn, paidFor}
+
+-- the settings u are t but for targets and caps, of which none is larger
+pub record KeptBut (t u : Terms) : Type 0 where
+  pub unit : u .unit ≡ t .unit
+  pub products : u .products ≡ t .products
+  pub bidders : u .bidders ≡ t .bidders
+  pub rows : u .rows ≡ t .rows
+  pub statewide : u .statewide ≡ t .statewide
+  pub eligibility : u .eligibility ≡ t .eligibility
+  pub row : u .row ≡ t .row
+  pub start : (p : ℕ) → p < 8 → startOf u p ≡ startOf t p
+  pub target : (p : ℕ) → p < t .products → targetOf u p ≤ targetOf t p
+  pub cap : (p : ℕ) → p < t .products → capOf u p ≤ capOf t p
 
 -- the calls split at the calculation that closed the auction; a bidder's closing bid, its card or default bid of that round, asked no
 -- more in total than it is awarded
