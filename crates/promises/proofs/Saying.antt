@@ -4,6 +4,7 @@ use mathlib.Core.Bool.{Bool, true, false, cond}
 use mathlib.Core.List.{List, [], _∷_}
 use Prim.Native.Nat.{ℕ, zero, suc}
 use lib.Dec.{eqb}
+use Rattle.rules.specs.declared.Tranches.{Tranches}
 use Rattle.rules.specs.declared.Line.{Line}
 use Rattle.rules.specs.declared.Settings.{Settings}
 use Rattle.rules.specs.declared.Calculated.{Calculated}
@@ -11,13 +12,15 @@ use Rattle.rules.specs.declared.Calculation.the-variants as calculation
 use Rattle.rules.specs.declared.Count.the-variants as count
 use Rattle.rules.specs.declared.Reported.{Reported}
 use Rattle.rules.specs.declared.Awarded.{Awarded}
-use Rattle.rules.specs.Answers.{said, outcome, answerFrom, answerOf, countSaid, calculationSaid, reportSaid, awardSaid, phaseNumber, phaseOf}
+use Rattle.rules.specs.declared.Volume.the-variants as volume
+use Rattle.rules.specs.Answers.{said, outcome, answerFrom, answerOf, countSaid, calculationSaid, reportSaid, awardSaid, volumeSaid, phaseNumber, phaseOf}
 use Rattle.rules.specs.Held.{freeOf, excess}
 use Rattle.rules.specs.Report.{rangeOf, reportOn, reportRefused, resultOf, resultRefused}
 use Rattle.rules.specs.Round.{calculated}
+use Rattle.rules.specs.Cutback.{suggestedVolume, suggestedNumber}
 use Rattle.rules.specs.Layout.{loaded}
 use Rattle.rules.specs.Card.{writeNumber, writeCard}
-use Rattle.rules.specs.Calls.{openNumber, openCall, fileNumber, fileCall, countNumber, countCall, toFile, calculationDone, calculateNumber, calculateCall, reportNumber, reportCall, resultNumber, resultCall, returnNumber, returnCall, writeCall}
+use Rattle.rules.specs.Calls.{openNumber, openCall, fileNumber, fileCall, countNumber, countCall, toFile, calculationDone, calculateNumber, calculateCall, cutbackNumber, cutbackCall, reportNumber, reportCall, resultNumber, resultCall, returnNumber, returnCall, writeCall, suggestedCall}
 use lib.ListN.{length}
 
 -- a number said with nothing beside it
@@ -25,7 +28,7 @@ number-said : (n : ℕ) → answerOf (answerFrom n) ≡ said n []
 number-said zero = refl
 number-said (suc n) = refl
 
--- open, file, return and write say their number
+-- open, file, cutback, return and write say their number
 pub open-said : (s : List ℕ) (x : Settings) → answerOf (openCall s x .answer) ≡ said (openNumber s x) []
 unfolding openCall
 open-said s x = number-said (openNumber s x)
@@ -33,6 +36,11 @@ open-said s x = number-said (openNumber s x)
 pub file-said : (s c : List ℕ) → answerOf (fileCall s c .answer) ≡ said (fileNumber s c) []
 unfolding fileCall
 file-said s c = number-said (fileNumber s c)
+
+pub cutback-said : (s : List ℕ) (targets caps : List Tranches)
+    → answerOf (cutbackCall s targets caps .answer) ≡ said (cutbackNumber s targets caps) []
+unfolding cutbackCall
+cutback-said s targets caps = number-said (cutbackNumber s targets caps)
 
 pub return-said : (s : List ℕ) → answerOf (returnCall s .answer) ≡ said (returnNumber s) []
 unfolding returnCall
@@ -94,3 +102,14 @@ pub result-said : (s : List ℕ)
     → awardSaid (resultCall s .award) ≡ cond (eqb (resultNumber s) 0) (said 0 []) (said (resultNumber s) [])
 unfolding resultCall resultOf
 result-said s = result-by (eqb (resultNumber s) 0) (resultNumber s) (resultOf (loaded s))
+
+-- the suggested volume, or 31
+suggested-by : (t : Bool) (n v : ℕ) → volumeSaid (cond t (volume.Suggested v) (volume.Refused n)) ≡ cond t (said 0 (v ∷ [])) (said n [])
+suggested-by true n v = refl
+suggested-by false n v = refl
+
+pub suggested-said : (bid ratio : ℕ)
+    → volumeSaid (suggestedCall bid ratio)
+    ≡ cond (eqb (suggestedNumber bid ratio) 0) (said 0 (suggestedVolume bid ratio ∷ [])) (said (suggestedNumber bid ratio) [])
+unfolding suggestedCall
+suggested-said bid ratio = suggested-by (eqb (suggestedNumber bid ratio) 0) (suggestedNumber bid ratio) (suggestedVolume bid ratio)

@@ -6,6 +6,7 @@ use Prim.Native.Nat.{ℕ}
 use native.Mathlib.Omega.{arith}
 use borrow.Author.Tests.{eqb-true}
 use lib.Dec.{eqb}
+use Rattle.rules.specs.declared.Tranches.{Tranches}
 use Rattle.rules.specs.declared.Line.{Line}
 use Rattle.rules.specs.declared.Settings.{Settings}
 use Rattle.rules.specs.declared.Auction.{Auction}
@@ -16,11 +17,12 @@ use Rattle.rules.specs.declared.Calculation.the-variants as calculation
 use Rattle.rules.specs.declared.Reported.{Reported}
 use Rattle.rules.specs.declared.Awarded.{Awarded}
 use Rattle.rules.specs.declared.CardRead.{CardRead}
+use Rattle.rules.specs.declared.Volume.{Volume}
 use Rattle.rules.specs.Answers.{Outcome, outcome, said, calculationSaid}
 use Rattle.rules.specs.Held.{ticked}
 use Rattle.rules.specs.Round.{calculated}
 use Rattle.rules.specs.Layout.{loaded}
-use Rattle.rules.specs.Calls.{openCall, fileCall, countCall, calculateNumber, calculationDone, calculateCall, reportCall, resultCall, returnCall, readCall, writeCall}
+use Rattle.rules.specs.Calls.{openCall, fileCall, countCall, calculateNumber, calculationDone, calculateCall, cutbackCall, reportCall, resultCall, returnCall, readCall, writeCall, suggestedCall}
 use Rattle.rules.proofs.Storing.{loaded-long}
 use Rattle.rules.proofs.Bids.{bids-accepted}
 use Rattle.rules.specs.Counted.{keptWhereTicked, CountsOutbid}
@@ -51,6 +53,10 @@ unique-count s = answers-one (countCall s)
 pub unique-calculate : (s draw : List ℕ) (o k : Outcome Calculation) → Leaves (calculateCall s draw) o → Leaves (calculateCall s draw) k → o ≡ k
 unique-calculate s draw = leaves-one (calculateCall s draw)
 
+pub unique-cutback : (s : List ℕ) (targets caps : List Tranches) (o k : Outcome Answer)
+    → Leaves (cutbackCall s targets caps) o → Leaves (cutbackCall s targets caps) k → o ≡ k
+unique-cutback s targets caps = leaves-one (cutbackCall s targets caps)
+
 pub unique-report : (s : List ℕ) (b : ℕ) (o k : Reported) → o ≡ reportCall s b → k ≡ reportCall s b → o ≡ k
 unique-report s b = answers-one (reportCall s b)
 
@@ -66,6 +72,9 @@ unique-read c n = answers-one (readCall c n)
 pub unique-write : (room : List ℕ) (n b r : ℕ) (ls : List Line) (o k : Outcome Answer)
     → Leaves (writeCall room n b r ls) o → Leaves (writeCall room n b r ls) k → o ≡ k
 unique-write room n b r ls = leaves-one (writeCall room n b r ls)
+
+pub unique-suggested : (bid ratio : ℕ) (o k : Volume) → o ≡ suggestedCall bid ratio → k ≡ suggestedCall bid ratio → o ≡ k
+unique-suggested bid ratio = answers-one (suggestedCall bid ratio)
 
 -- ---- the two counts
 

@@ -3,12 +3,13 @@
 use mathlib.Core.Path.{_≡_, refl, sym, _∙_, ap}
 use mathlib.Core.Bool.{Bool, true, false, cond}
 use mathlib.Core.List.{List, [], _∷_}
-use Prim.Native.Nat.{ℕ}
+use Prim.Native.Nat.{ℕ, _<_}
 use native.Mathlib.Omega.{arith}
 use borrow.Author.Tests.{eqb-true, eq-eqb}
 use lib.ListN.{length, replicate, length-replicate}
 use lib.Count.{ones}
 use lib.Dec.{eqb}
+use Rattle.rules.specs.declared.Tranches.{Tranches}
 use Rattle.rules.specs.declared.Settings.{Settings}
 use Rattle.rules.specs.declared.Product.{Product}
 use Rattle.rules.specs.declared.Unit.the-variants as unit
@@ -20,11 +21,12 @@ use Rattle.rules.specs.declared.Count.the-variants as count
 use Rattle.rules.specs.declared.Report.the-variants as report
 use Rattle.rules.specs.declared.Phase.the-variants.{Closed as ClosedPhase}
 use Rattle.rules.specs.declared.Award.the-variants as award
+use Rattle.rules.specs.declared.Volume.the-variants as volume
 use Rattle.rules.specs.declared.Card.the-variants as card
 use Rattle.rules.specs.Count.{allUpTo, from}
 use Rattle.rules.specs.Units.{tranches, quote}
 use Rattle.rules.specs.Answers.{outcome, closed, stopped}
-use Rattle.rules.specs.Settings.{noProduct, row, noRow, settingsFit, termsOf}
+use Rattle.rules.specs.Settings.{noProduct, row, noRow, settingsFit, termsOf, targetOf, capOf}
 use Rattle.rules.specs.Bits.{bitAt, fieldAt, setIn, setBit, putField}
 use Rattle.rules.specs.Card.{line, noLine, readLines, readCard, putLines, cardOf, writeNumber, writeCard}
 use Rattle.rules.specs.Held.{excess}
@@ -32,14 +34,16 @@ use Rattle.rules.specs.Bid.{judged}
 use Rattle.rules.specs.Keep.{keepLoop}
 use Rattle.rules.specs.Outbid.{deemedUpTo, outbidLoop}
 use Rattle.rules.specs.Round.{afterStep2, afterStep4, atRest, onward, stops, settled, calculated}
+use Rattle.rules.specs.Cutback.{givenFor, revised}
 use Rattle.rules.specs.Report.{range, reportOn, resultOf}
 use Rattle.rules.specs.Layout.{stateLength, loaded, allZero}
 use Rattle.rules.specs.Standing.{isOpen}
-use Rattle.rules.specs.Calls.{opened, openNumber, openCall, ofState, cardNumber, fileCall, openNumberOf, countCall, drawNumber, calculateNumber, calculateCall, bidderNumber, reportCall, closedNumber, resultCall, returnCall, readCall, writeCall}
+use Rattle.rules.specs.Calls.{opened, openNumber, openCall, ofState, cardNumber, withCard, afterCard, fileCall, openNumberOf, countCall, drawNumber, calculateNumber, calculateCall, cutNumber, cutbackNumber, cutbackCall, bidderNumber, reportCall, closedNumber, resultCall, returnCall, readCall, writeCall, suggestedCall}
 use Rattle.rules.proofs.Lists.{clash}
 use Rattle.rules.proofs.Calling.{granted}
 use Rattle.rules.specs.OneCall.{StandsIn}
-use Rattle.rules.proofs.OneCall.{not-issued, of-standing, zeros, open-stands, open-loaded, open-standing, calculate-accepts, calculate-loaded, calculate-stands, return-issued}
+use Rattle.rules.proofs.OneCall.{not-issued, of-standing, zeros, open-stands, open-loaded, open-standing, file-loaded, file-stands, calculate-accepts, calculate-loaded, calculate-stands, cutback-only, return-issued}
+use Rattle.rules.proofs.Cutback.{revised-target, revised-cap}
 use Rattle.promises.specs.Runs.{openedBy}
 use Rattle.promises.specs.Awards.{Closed}
 use Rattle.promises.proofs.Closing.{closed-gives}
@@ -71,6 +75,17 @@ round-other a draw = settled-other a (afterStep4 a draw (afterStep2 a draw .plac
 pub calculate-writes : (s : List ℕ) → StandsIn s → (draw : List ℕ) → calculateNumber s draw ≡ 0 → calculateCall s draw .bytes ≡ s → ⊥
 calculate-writes s S draw n q =
     round-other (loaded s) draw (calculate-accepts s S draw n .0) (sym (calculate-loaded s S draw n) ∙ ap loaded q)
+
+-- a cutback accepted that revises a target or a cap changes the state
+pub cutback-writes : (s : List ℕ) → StandsIn s → (targets caps : List Tranches) → cutbackNumber s targets caps ≡ 0
+    → cutbackCall s targets caps .bytes ≡ s
+    → (p : ℕ) → p < 8 → (givenFor targets p ≡ targetOf (loaded s .terms) p) × (givenFor caps p ≡ capOf (loaded s .terms) p)
+cutback-writes s S targets caps n q p h =
+    let t : loaded s .terms ≡ revised (loaded s .terms) targets caps =
+    ap (λ b. loaded b .terms) (sym q) ∙ cutback-only s S targets caps n .terms in
+    let x = ap (λ t. targetOf t p) t in
+    let y = ap (λ t. capOf t p) t in
+    (sym (x ∙ revised-target (loaded s .terms) targets caps p h), sym (y ∙ revised-cap (loaded s .terms) targets caps p h))
 
 -- ---- not one that refuses all, nor one with a constant answer: setting S
 
@@ -184,3 +199,63 @@ write-answers = (refl, refl)
 pub return-answers : (returnCall openBox .answer ≡ answer.Done) × (returnCall [] .answer ≡ answer.Refused 1)
 unfolding returnCall
 return-answers = (return-issued openBox (open-box .long) .0, refl)
+
+pub suggested-answers : (suggestedCall 72 150 ≡ volume.Suggested 48) × (suggestedCall 72 0 ≡ volume.Refused 31)
+unfolding suggestedCall
+suggested-answers = (refl, refl)
+
+-- ---- a cutback, after a round 1 in which bidders 0 and 1 each bid two tranches of the first product
+
+unfoldable pub cardOf1 : List ℕ
+cardOf1 = 8 ∷ 0 ∷ 129 ∷ 0 ∷ 0 ∷ 0 ∷ 0 ∷ 0 ∷ 0 ∷ 0 ∷ 0 ∷ 0 ∷ []
+
+-- what a call says of a box whose auction is known
+says-of : (s : List ℕ) → StandsIn s → (a : Auction) → loaded s ≡ a → (n : ℕ) (says : Auction → ℕ) → ofState s n says ≡ says a
+says-of s S a e n says = of-standing s S n says ∙ ap says e
+
+abbrev box1 : List ℕ
+box1 = fileCall openBox cardOf0 .bytes
+
+abbrev auction1 : Auction
+auction1 = afterCard cardOf0 (opened (termsOf settingS))
+
+holds1 : loaded box1 ≡ auction1
+unfolding settingS cardOf0 opened termsOf allUpTo from judged readCard readLines fieldAt bitAt
+holds1 = file-loaded openBox open-box cardOf0 (box-says 3 (cardNumber cardOf0)) ∙ ap (afterCard cardOf0) open-auction
+
+abbrev box2 : List ℕ
+box2 = fileCall box1 cardOf1 .bytes
+
+abbrev auction2 : Auction
+auction2 = afterCard cardOf1 auction1
+
+stands1 : StandsIn box1
+stands1 = file-stands openBox open-box cardOf0
+
+holds2 : loaded box2 ≡ auction2
+unfolding settingS cardOf0 cardOf1 opened termsOf allUpTo from judged readCard readLines fieldAt bitAt withCard setIn
+holds2 = file-loaded box1 stands1 cardOf1 (says-of box1 stands1 auction1 holds1 3 (cardNumber cardOf1)) ∙ ap (afterCard cardOf1) holds1
+
+stands2 : StandsIn box2
+stands2 = file-stands box1 stands1 cardOf1
+
+-- the box in round 2, in which no card is filed
+abbrev pub roundTwo : List ℕ
+roundTwo = calculateCall box2 draw012 .bytes
+
+holds3 : loaded roundTwo ≡ calculated auction2 draw012 .auction
+unfolding settingS draw012 cardOf0 cardOf1 opened termsOf allUpTo from readCard readLines fieldAt bitAt withCard
+holds3 =
+    calculate-loaded box2 stands2 draw012 (says-of box2 stands2 auction2 holds2 3 (drawNumber draw012))
+    ∙ ap (λ a. calculated a draw012 .auction) holds2
+
+abbrev two : ℕ → ℕ → List Tranches
+two x y = tranches x ∷ tranches y ∷ replicate 6 (tranches 0)
+
+-- a reduced cap is accepted; a volume below the statewide cap is refused
+pub cutback-answers : (cutbackCall roundTwo (two 3 2) (two 1 2) .answer ≡ answer.Done)
+    × (cutbackCall roundTwo (two 2 2) (two 1 2) .answer ≡ answer.Refused 20)
+unfolding cutbackCall settingS draw012 cardOf0 cardOf1 opened termsOf allUpTo from readCard readLines fieldAt bitAt withCard setIn calculated keepLoop deemedUpTo outbidLoop
+cutback-answers =
+    let S = calculate-stands box2 stands2 draw012 in
+    (rw (says-of roundTwo S _ holds3 3 (cutNumber (two 3 2) (two 1 2))), rw (says-of roundTwo S _ holds3 3 (cutNumber (two 2 2) (two 1 2))))
