@@ -254,6 +254,10 @@ module _ (s : List ℕ) (x : Settings) (new : openNumber s x ≡ 0) (e : length 
       run-terms (openedBy s x) (open-stands s x new e r) cs
       ∙ ap (λ a. revisedBy (a .terms) (cutbacks (openedBy s x) cs)) (open-loaded s x new e r)
 
+  -- which are those opened where none was,
+  pub uncut-terms : (cs : List Call) → cutbacks (openedBy s x) cs ≡ [] → settingsAfter s x cs ≡ termsOf x
+  uncut-terms cs u = ap (revisedBy (termsOf x)) u
+
   -- and of no other: every other setting stays, and no target or cap is larger than opened
   pub opened-keeps : (cs : List Call) → KeptBut (termsOf x) (settingsAfter s x cs)
   unfolding opened

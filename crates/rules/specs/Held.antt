@@ -102,7 +102,8 @@ abbrev pub standingOf : Auction → ℕ → ℤ
 standingOf a p = standing (held (a .records) (a .terms .bidders) p) (targetOf (a .terms) p)
 
 -- "A product ticked exactly when its standing after the last calculation was above zero; none ticked before round 1":
--- while bids are open the records are those of the last calculation, and before round 1 nothing is held
+-- while bids are open the records are those of the last calculation, and before round 1 nothing is held; after a cutback it "goes by
+-- the standings of the reduced book", whose targets are the revised ones
 abbrev pub ticked : Auction → ℕ → Bool
 ticked a p = above (standingOf a p)
 
