@@ -1,4 +1,5 @@
-use mathlib.Core.Path.{_≡_}
+use mathlib.Core.Path.{_≡_, ap, ap₂}
+use mathlib.Core.Bool.{_&&_}
 use Prim.Native.Nat.{_≤_, _-_}
 use native.Mathlib.Nat.{le-antisymm}
 use native.Mathlib.Numerals.{add-one}
@@ -21,7 +22,8 @@ loop-holds c = search needs
 
 loop-again : tie.Need-loop-again Inv-loop μ-loop
 unfolding allUpTo
-loop-again c = rw add-one (search needs, cc)
+loop-again c =
+    rw add-one (search needs, ap₂ _&&_ (c .before .before .loop .inv .1) (ap (λ k. eqb k 0) (c .kept-on .ensures .0)))
 
 pub nothing-kept-spec : {M : Type 1} → statement M
 nothing-kept-spec =
