@@ -8,7 +8,7 @@ ghost use Rattle.rules.specs.Count.{allUpTo};
 ghost use Rattle.rules.specs.Settings.{startOf, initialOf};
 ghost use Rattle.rules.specs.Held.{freeOf, recordAt};
 ghost use Rattle.rules.specs.Bid.{priceAt, beforeAt};
-ghost use Rattle.rules.specs.Standing.{recordZero, asOpened, openStands, endStands, phaseStands};
+ghost use Rattle.rules.specs.Standing.{recordZero, asOpened, nothingKept, openStands, endStands, phaseStands};
 ghost use Rattle.held.specs.Counts.{Counts};
 use rules::Auction;
 
@@ -80,6 +80,21 @@ fn as_opened(a: Auction) -> bool
     prices_at_start(a)
 }
 
+// "In an open round 2 nothing is kept, which standing requires."
+fn nothing_kept(a: Auction) -> bool
+    requires { ⌜ Counts a ⌝ }
+    ensures { λ r. ⌜ r ≡ nothingKept a ⌝ }
+{
+    let m = a.terms.products as usize;
+    let mut ok = true;
+    let mut p: usize = 0;
+    while p < m {
+        ok = ok & (held::kept_on(a, p) == 0);
+        p += 1;
+    }
+    ok
+}
+
 // "open later rounds have excess above 0"
 fn open_stands(a: Auction) -> bool
     requires { ⌜ Counts a ⌝ }
@@ -88,7 +103,11 @@ fn open_stands(a: Auction) -> bool
     if a.round == 1 {
         return as_opened(a);
     }
-    held::excess(a) > 0
+    let over = held::excess(a) > 0;
+    if a.round == 2 {
+        return over & nothing_kept(a);
+    }
+    over
 }
 
 // "closed and stopped states meet step 5 and hold no cards"

@@ -1,10 +1,13 @@
-// "Next price of a product above target."
+// "Next price of a product above target", and a round that opens at such prices.
 ghost use mathlib.Core.Path.{_≡_};
 ghost use mathlib.Core.Bool.{cond};
 ghost use Prim.Native.Nat.{_*_, _/_, _≤_};
 ghost use lib.Dec.{leb};
 ghost use Rattle.rules.specs.Held.{aboveZero};
 ghost use Rattle.rules.specs.Price.{decrementUpTo, nextPrice, nextBefore};
+ghost use Rattle.rules.specs.Round.{opensAt};
+ghost use Rattle.held.specs.Counts.{Counts};
+use rules::Auction;
 use rules::BasisPoints;
 use rules::Price;
 use rules::Row;
@@ -56,7 +59,7 @@ fn decrement(t: Terms, percent: u64) -> BasisPoints
 }
 
 // "Next price of a product above target"; "Other prices stay."
-pub fn next_price(t: Terms, standing: i32, target: u16, price: u32) -> u32
+fn next_price(t: Terms, standing: i32, target: u16, price: u32) -> u32
     requires { ⌜ t .rows ≤ 8 ⌝ }
     ensures { λ r. ⌜ r ≡ nextPrice t standing target price ⌝ }
 {
@@ -68,11 +71,35 @@ pub fn next_price(t: Terms, standing: i32, target: u16, price: u32) -> u32
 }
 
 // The price before its latest fall.
-pub fn next_before(standing: i32, price: u32, before: u32) -> u32
+fn next_before(standing: i32, price: u32, before: u32) -> u32
     ensures { λ r. ⌜ r ≡ nextBefore standing price before ⌝ }
 {
     if search::is_above(standing) {
         return price;
     }
     before
+}
+
+// A round opens at the prices that are worked out from the going prices and the book.
+pub fn opens_at(a: Auction, round: u16) -> Auction
+    requires { ⌜ Counts a × (a .terms .rows ≤ 8) ⌝ }
+    ensures { λ r. ⌜ r ≡ opensAt round a ⌝ }
+{
+    let t = a.terms;
+    let mut price = [0u32; 8];
+    let mut before = [0u32; 8];
+    let mut p: usize = 0;
+    while p < 8 {
+        let item = t.item[p];
+        let standing = held::standing(a, p);
+        price[p] = next_price(t, standing, item.target.0, a.price[p]);
+        before[p] = next_before(standing, a.price[p], a.before[p]);
+        p += 1;
+    }
+    let mut next = a;
+    next.phase = 1;
+    next.round = round;
+    next.price = price;
+    next.before = before;
+    next
 }

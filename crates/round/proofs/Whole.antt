@@ -2,7 +2,7 @@
 use mathlib.Core.Path.{_≡_, sym, _∙_, ap, ap₂, subst}
 use mathlib.Core.Bool.{Bool, true, false, cond}
 use mathlib.Core.List.{List}
-use Prim.Native.Nat.{ℕ, _+_, _*_, _≤_}
+use Prim.Native.Nat.{ℕ, _*_, _≤_}
 use borrow.Author.Tests.{eq-eqb, ne-eqb}
 use lib.ListN.{replicate}
 use Rattle.rules.specs.declared.Tranches.{Tranches}
@@ -15,14 +15,12 @@ use Rattle.rules.specs.declared.Auction.{Auction}
 use Rattle.rules.specs.Count.{listOf}
 use Rattle.rules.specs.Units.{tranches}
 use Rattle.rules.specs.Card.{noLine}
-use Rattle.rules.specs.Bid.{priceAt, beforeAt}
-use Rattle.rules.specs.Answers.{bidsOpen, closed, stopped}
+use Rattle.rules.specs.Answers.{closed, stopped}
 use Rattle.rules.specs.Settings.{targetOf}
-use Rattle.rules.specs.Held.{standingOf, excess, ticked}
+use Rattle.rules.specs.Held.{excess, ticked}
 use Rattle.rules.specs.Accept.{placeAt, acceptedAll, every, leftOf, keptOf}
 use Rattle.rules.specs.Keep.{keptAll}
 use Rattle.rules.specs.Outbid.{deemedUpTo, outbid, outbidAll}
-use Rattle.rules.specs.Price.{nextPrice, nextBefore}
 use Rattle.rules.specs.Round.{drawn, afterStep2, afterStep4, afterKept, counted, atRest, onward, stops, settled, calculated}
 use Rattle.held.specs.Counts.{Counts}
 use Rattle.search.specs.Room.{isOne}
@@ -47,24 +45,6 @@ resting phase a free records none = record {
 pub rest-is : (phase : ℕ) (a : Auction) (o : Outbid) (records : List Record) (none : Line)
     → records ≡ listOf (λ k. placeAt (o .places) k .holds) 256 → none ≡ noLine → resting phase a (o .free) records none ≡ atRest phase a o
 rest-is phase a o records none e f = ap₂ (resting phase a (o .free)) e f
-
-abbrev fallen : Auction → List ℕ → List ℕ → Auction
-fallen a price before = record {
-  phase = bidsOpen;
-  round = a .round + 1;
-  filed = a .filed;
-  terms = a .terms;
-  price = price;
-  before = before;
-  free = a .free;
-  records = a .records;
-  bids = a .bids;
-}
-
-pub onward-is : (a : Auction) (price before : List ℕ)
-    → price ≡ listOf (λ p. nextPrice (a .terms) (standingOf a p) (targetOf (a .terms) p) (priceAt a p)) 8
-    → before ≡ listOf (λ p. nextBefore (standingOf a p) (priceAt a p) (beforeAt a p)) 8 → fallen a price before ≡ onward a
-onward-is a price before e f = ap₂ (fallen a) e f
 
 -- ---- step 5
 

@@ -1,14 +1,11 @@
-// "Calculating": a whole round, its steps 1 and 5, and the next prices.
+// "Calculating": a whole round, and its steps 1 and 5.
 ghost use mathlib.Core.Path.{_≡_};
 ghost use mathlib.Core.Bool.{cond};
 ghost use Prim.Native.Nat.{_/_, _%_, _^_, _≤_, _<_};
 ghost use lib.Dec.{eqb};
 ghost use Rattle.rules.specs.Count.{listOf};
-ghost use Rattle.rules.specs.Settings.{targetOf};
-ghost use Rattle.rules.specs.Held.{standingOf};
-ghost use Rattle.rules.specs.Bid.{defaultLine, priceAt, beforeAt};
+ghost use Rattle.rules.specs.Bid.{defaultLine};
 ghost use Rattle.rules.specs.Accept.{nowhere, placeAt, accepted, acceptedAll};
-ghost use Rattle.rules.specs.Price.{nextPrice, nextBefore};
 ghost use Rattle.rules.specs.Round.{atRest, onward, settled, calculated};
 ghost use Rattle.held.specs.Counts.{Counts};
 ghost use Rattle.round.specs.Ready.{Ready, Ticks};
@@ -130,50 +127,6 @@ pub fn accept_all(a: Auction, ticks: [u8; 8]) -> [Place; 256]
     all
 }
 
-// ---- Next prices
-
-fn price_at(a: Auction, p: usize) -> u32
-    requires { ⌜ Counts a × ((a .terms .rows ≤ 8) × (p < 8)) ⌝ }
-    ensures { λ r. ⌜ r ≡ nextPrice (a .terms) (standingOf a p) (targetOf (a .terms) p) (priceAt a p) ⌝ }
-{
-    let t = a.terms;
-    let item = t.item[p];
-    prices::next_price(t, held::standing(a, p), item.target.0, a.price[p])
-}
-
-fn before_at(a: Auction, p: usize) -> u32
-    requires { ⌜ Counts a × (p < 8) ⌝ }
-    ensures { λ r. ⌜ r ≡ nextBefore (standingOf a p) (priceAt a p) (beforeAt a p) ⌝ }
-{
-    prices::next_before(held::standing(a, p), a.price[p], a.before[p])
-}
-
-fn next_prices(a: Auction) -> [u32; 8]
-    requires { ⌜ Counts a × (a .terms .rows ≤ 8) ⌝ }
-    ensures { λ r. ⌜ r ≡ listOf (λ p. nextPrice (a .terms) (standingOf a p) (targetOf (a .terms) p) (priceAt a p)) 8 ⌝ }
-{
-    let mut all = [0u32; 8];
-    let mut p: usize = 0;
-    while p < 8 {
-        all[p] = price_at(a, p);
-        p += 1;
-    }
-    all
-}
-
-fn next_befores(a: Auction) -> [u32; 8]
-    requires { ⌜ Counts a ⌝ }
-    ensures { λ r. ⌜ r ≡ listOf (λ p. nextBefore (standingOf a p) (priceAt a p) (beforeAt a p)) 8 ⌝ }
-{
-    let mut all = [0u32; 8];
-    let mut p: usize = 0;
-    while p < 8 {
-        all[p] = before_at(a, p);
-        p += 1;
-    }
-    all
-}
-
 // ---- Step 5
 
 fn records_of(places: [Place; 256]) -> [Record; 256]
@@ -220,14 +173,7 @@ fn onward(a: Auction) -> Auction
     requires { ⌜ Counts a × ((a .terms .rows ≤ 8) × (a .round ≤ 4095)) ⌝ }
     ensures { λ r. ⌜ r ≡ onward a ⌝ }
 {
-    let price = next_prices(a);
-    let before = next_befores(a);
-    let mut next = a;
-    next.phase = 1;
-    next.round = a.round + 1;
-    next.price = price;
-    next.before = before;
-    next
+    prices::opens_at(a, a.round + 1)
 }
 
 // "If it is 0 the auction is closed. Otherwise, .. it is stopped. Otherwise prices fall and the next round opens."

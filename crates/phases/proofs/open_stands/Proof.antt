@@ -1,19 +1,28 @@
+use mathlib.Core.Path.{_≡_, refl}
+use mathlib.Core.Bool.{Bool, true, false, _&&_}
 use borrow.Author.Tests.{eq-eqb, ne-eqb}
 use borrow.Author.Needs.{needs}
 use Rattle.phases.proofs.open_stands.Statement.{statement}
 use Rattle.phases.proofs.open_stands.Tie as tie
 
-as-opened-requires : tie.Need-as-opened-requires
-as-opened-requires c κs = search needs
-
 returns : tie.Need-returns
 returns c = rw (eq-eqb _ _ (c .before .if1 .taken), c .as-opened .ensures)
 
-excess-requires : tie.Need-excess-requires
-excess-requires c κs = search needs
-
 returns-2 : tie.Need-returns-2
-returns-2 c = rw (ne-eqb _ _ (c .before .if1 .left), c .excess .ensures .0)
+returns-2 c =
+    let d = c .before .before .before in
+    rw (ne-eqb _ _ (d .before .if1 .left), eq-eqb _ _ (c .before .if2 .taken), d .excess .ensures .0, c .nothing-kept .ensures)
+
+and-true : (t : Bool) → t ≡ t && true
+and-true true = refl
+and-true false = refl
+
+returns-3 : tie.Need-returns-3
+returns-3 c =
+    let d = c .before .before in
+    rw (ne-eqb _ _ (d .before .if1 .left), ne-eqb _ _ (c .if2 .left), ← d .excess .ensures .0) (and-true _)
 
 pub open-stands-spec : {M : Type 1} → statement M
-open-stands-spec = tie.close (tie.spec as-opened-requires returns excess-requires returns-2)
+open-stands-spec =
+    tie.close
+    (tie.spec (λ c κs. search needs) returns (λ c κs. search needs) (λ c κs. search needs) returns-2 returns-3)

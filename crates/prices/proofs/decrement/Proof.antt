@@ -16,27 +16,6 @@ Inv-loop percent t n found₀ i₀ found i = (i ≤ t .rows) × (found .0 ≡ de
 abbrev μ-loop : tie.MeasureT-loop
 μ-loop percent t n found₀ i₀ found i = t .rows - i
 
-cast-n : tie.Need-cast-n Inv-loop μ-loop
-cast-n c = search needs
-
-loop-holds : tie.Need-loop-holds Inv-loop μ-loop
-loop-holds c = search needs
-
-mul-row : tie.Need-mul-row Inv-loop μ-loop
-mul-row c = search needs
-
-element-copy-out-row : tie.Need-element-copy-out-row Inv-loop μ-loop
-element-copy-out-row c = search needs
-
-or-row-requires : tie.Need-or-row-requires Inv-loop μ-loop
-or-row-requires c κs = search needs
-
-add-i : tie.Need-add-i Inv-loop μ-loop
-add-i c = search needs
-
-loop-less : tie.Need-loop-less Inv-loop μ-loop
-loop-less c = search needs
-
 loop-again : tie.Need-loop-again Inv-loop μ-loop
 loop-again c =
     let a = c .before .before .before .before .args in
@@ -55,12 +34,12 @@ decrement-spec =
     (tie.spec
     Inv-loop
     μ-loop
-    cast-n
-    loop-holds
-    mul-row
-    element-copy-out-row
-    or-row-requires
-    add-i
-    loop-less
+    (λ c. search needs)
+    (λ c. search needs)
+    (λ c. search needs)
+    (λ c. search needs)
+    (λ c κs. search needs)
+    (λ c. search needs)
+    (λ c. search needs)
     loop-again
     returns)

@@ -9,27 +9,6 @@ use Rattle.prices.proofs.next_price.Tie as tie
 told : (c : tie.After-is-above) → c .is-above .result ≡ above (c .before .args .standing)
 told c = c .is-above .ensures ∙ ap above (back (c .before .args .standing) (c .before .fits .standing .sfits))
 
-is-above-requires : tie.Need-is-above-requires
-is-above-requires c κs = search needs
-
-surplus-requires : tie.Need-surplus-requires
-surplus-requires c κs = search needs
-
-percentage-requires : tie.Need-percentage-requires
-percentage-requires c κs = search needs
-
-decrement-requires : tie.Need-decrement-requires
-decrement-requires c κs = search needs
-
-of-requires : tie.Need-of-requires
-of-requires c κs = search needs
-
-fall-requires : tie.Need-fall-requires
-fall-requires c κs = search needs
-
-amount-requires : tie.Need-amount-requires
-amount-requires c κs = search needs
-
 returns : tie.Need-returns
 returns c =
     let s = c .before .before .before .before .before .before .before .before in
@@ -52,12 +31,12 @@ pub next-price-spec : {M : Type 1} → statement M
 next-price-spec =
     tie.close
     (tie.spec
-    is-above-requires
-    surplus-requires
-    percentage-requires
-    decrement-requires
-    of-requires
-    fall-requires
-    amount-requires
+    (λ c κs. search needs)
+    (λ c κs. search needs)
+    (λ c κs. search needs)
+    (λ c κs. search needs)
+    (λ c κs. search needs)
+    (λ c κs. search needs)
+    (λ c κs. search needs)
     returns
     returns-2)
