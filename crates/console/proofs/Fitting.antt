@@ -7,17 +7,35 @@ use native.Mathlib.Omega.{arith}
 use borrow.Author.Tests.{ltb-true}
 use lib.Count.{ones}
 use lib.Dec.{ltb}
+use Rattle.rules.specs.Held.{goingIn, place}
+use Rattle.rules.specs.Bid.{recordOf}
 use Rattle.rules.specs.Layout.{loaded}
 use Rattle.rules.specs.Calls.{bidderNumber}
+use Rattle.rules.proofs.Sums.{sum-le}
+use Rattle.rules.proofs.Priorities.{sum-const}
 use Rattle.rules.proofs.Storing.{Bytes, loaded-bits}
-use Rattle.rules.proofs.Fitting.{record-small}
+use Rattle.rules.proofs.Fitting.{bidder-small, record-small}
 use Rattle.reports.specs.Awards.{Awardable}
-use Rattle.numbers.proofs.StateLaws.{Stood}
+use Rattle.cutback.specs.Cuttable.{Room, Cuttable}
+use Rattle.numbers.proofs.StateLaws.{Stood, counts}
 use Rattle.console.proofs.Counting.{few-filed}
 
 module _ (s : List ℕ) where
   pub awardable : Stood s → Awardable (loaded s)
   awardable S = record { small = λ k h. omega (arith, record-small (loaded s) (S .stood) k h .0) }
+
+  room : Stood s → let a = loaded s in Room (a .free) (a .records) (a .terms .products)
+  room S = record {
+    each = λ b h.
+        let a = loaded s in
+        let m = S .stood .limits .products in
+        let r = sum-le (λ p. goingIn (recordOf a b p)) (λ p. 200) (a .terms .products)
+        (λ p l. omega (arith, record-small a (S .stood) (place b p) (omega arith) .0)) in
+        omega (arith, sum-const 200 (a .terms .products), bidder-small a (S .stood) b h);
+  }
+
+  pub cuttable : Stood s → Cuttable (loaded s)
+  cuttable S = record { counts = counts s S; rows = S .stood .limits .rows; room = room S }
 
   pub few : Stood s → Bytes s → ones (loaded s .filed) ≤ loaded s .terms .bidders
   few S B = few-filed (loaded s) (S .stood) (loaded-bits s B)

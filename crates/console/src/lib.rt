@@ -1,7 +1,7 @@
-// The console: document 01's calls on lent bytes, and nothing else. Each call's contract is its one definition in the crate rules,
-// specs/Calls.antt: its answer and every byte that it may write, for every input.
+// The console: the calls of documents 01 and 02 on lent bytes, and nothing else. Each call's contract is its one definition in the
+// crate rules, specs/Calls.antt: its answer and every byte that it may write, for every input.
 ghost use mathlib.Core.Path.{_≡_};
-ghost use Rattle.rules.specs.Calls.{openCall, fileCall, countCall, calculateCall, reportCall, resultCall, returnCall, readCall, writeCall};
+ghost use Rattle.rules.specs.Calls.{openCall, fileCall, countCall, calculateCall, cutbackCall, reportCall, resultCall, returnCall, readCall, writeCall, suggestedCall};
 pub use numbers::state_number;
 use rules::Answer;
 use rules::Awarded;
@@ -11,6 +11,8 @@ use rules::Count;
 use rules::Line;
 use rules::Reported;
 use rules::Settings;
+use rules::Tranches;
+use rules::Volume;
 
 // Open an auction: 1, 17, 15.
 pub fn open(s: &mut [u8], given: Settings) -> Answer
@@ -73,6 +75,19 @@ pub fn calculate(s: &mut [u8], draw: &[u8]) -> Calculation
     }
 }
 
+// Cut the volume back after round 1: 1, 2, 3, 20.
+pub fn cutback(s: &mut [u8], targets: [Tranches; 8], caps: [Tranches; 8]) -> Answer
+    ensures { λ r. ⌜ (r ≡ cutbackCall (now (s .entry)) targets caps .answer) × (now (s .exit) ≡ cutbackCall (now (s .entry)) targets caps .bytes) ⌝ }
+{
+    let n = numbers::cutback_number(s, targets, caps);
+    if n != 0 {
+        return Answer::Refused(n);
+    }
+    let a = state::load(s);
+    state::store(cutback::cut_back(a, targets, caps), s);
+    Answer::Done
+}
+
 // Report to one bidder: 1, 2, 3 (issued), 6, 18.
 pub fn report(s: &[u8], bidder: u8) -> Reported
     ensures { λ r. ⌜ r ≡ reportCall (now (s .entry)) bidder ⌝ }
@@ -119,4 +134,11 @@ pub fn write(room: &mut [u8], products: usize, bidder: u8, round: u16, lines: [L
     ensures { λ r. ⌜ (r ≡ writeCall (now (room .entry)) products bidder round lines .answer) × (now (room .exit) ≡ writeCall (now (room .entry)) products bidder round lines .bytes) ⌝ }
 {
     card::write(room, products, bidder, round, lines)
+}
+
+// Apart from any auction, suggest a volume: 31.
+pub fn suggested_volume(bid: u32, ratio: u32) -> Volume
+    ensures { λ r. ⌜ r ≡ suggestedCall bid ratio ⌝ }
+{
+    cutback::suggested_volume(bid, ratio)
 }

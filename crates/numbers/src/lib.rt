@@ -1,8 +1,9 @@
 // "Numbers answered": the first number that applies, for each call that is lent a state and needs one that stands. 0 stands for
 // none: the call does its work.
 ghost use mathlib.Core.Path.{_≡_};
-ghost use Rattle.rules.specs.Calls.{fileNumber, countNumber, calculateNumber, reportNumber, resultNumber};
+ghost use Rattle.rules.specs.Calls.{fileNumber, countNumber, calculateNumber, cutbackNumber, reportNumber, resultNumber};
 ghost use Rattle.numbers.specs.State.{stateNumber};
+use rules::Tranches;
 
 // 1, 2, and 3 for an issued state, which has no auction; 0 where the state stands.
 pub fn state_number(s: &[u8]) -> u8
@@ -62,6 +63,24 @@ pub fn calculate_number(s: &[u8], draw: &[u8]) -> u8
         return 0;
     }
     14
+}
+
+// Cutback: 1, 2, 3, 20.
+pub fn cutback_number(s: &[u8], targets: [Tranches; 8], caps: [Tranches; 8]) -> u8
+    ensures { λ r. ⌜ r ≡ cutbackNumber (now (s .entry)) targets caps ⌝ }
+{
+    let n = state_number(s);
+    if n != 0 {
+        return n;
+    }
+    let a = state::load(s);
+    if a.phase != 1 {
+        return 3;
+    }
+    if cutback::may_cut(a, targets, caps) {
+        return 0;
+    }
+    20
 }
 
 // Report: 1, 2, 3 (issued), 6, 18.

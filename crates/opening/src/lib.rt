@@ -107,7 +107,7 @@ pub fn settings_fit(s: Settings) -> bool
 // ---- The auction as it opens
 
 // The starting prices.
-fn starts(t: Terms) -> [u32; 8]
+pub fn starts(t: Terms) -> [u32; 8]
     ensures { λ r. ⌜ r ≡ listOf (startOf t) 8 ⌝ }
 {
     let mut prices = [0u32; 8];
