@@ -1,10 +1,12 @@
 #!/usr/bin/env python3
-"""Plays random auctions in the desk and in tests/model.py, and compares every answer and every box.
+"""Plays random auctions in the desk and in tests/model.py, compares every answer and every box, and says how often each command
+was answered how.
 
     tests/against.py [SESSIONS [BOXES [SEED]]]
 
 The desk is ./desk, or the program that DESK names. Not part of the gate.
 """
+import collections
 import os
 import random
 import subprocess
@@ -27,7 +29,7 @@ def opening(rnd):
     caps = [t if rnd.random() < .6 else rnd.randint(1, t) for t in targets]
     price = rnd.choice([1, 2, 5, 20, 300, 1000, 14500, 99999])
     prices = [price if rnd.random() < .5 else rnd.randint(1, price) for _ in range(n)]
-    statewide = sum(targets) if rnd.random() < .6 else rnd.randint(1, sum(targets))
+    statewide = sum(targets) if rnd.random() < .4 else rnd.randint(1, sum(targets))
     eligible = [statewide if rnd.random() < .4 else rnd.randint(1, statewide) for _ in range(m)]
     rows, percent = [], 0
     for _ in range(rnd.randint(1, 8)):
@@ -104,6 +106,44 @@ def spoiled_fields(rnd, a, lines):
     return lines
 
 
+def good_cutback(rnd, a):
+    """Revised targets and caps, two numbers a product, of which none is against a rule."""
+    n = a.products
+    target = a.target[:n]
+    spare = sum(target) - a.statewide
+    for _ in range(rnd.choice([0, 1, 2, 5, 20])):
+        j = rnd.randrange(n)
+        least = target[j + 1] if j + 1 < n else 1
+        less = rnd.randint(0, max(0, min(spare, target[j] - least)))
+        target[j] -= less
+        spare -= less
+    caps = [min(c, t) if rnd.random() < .4 else rnd.randint(1, max(1, min(c, t))) for t, c in zip(target, a.cap)]
+    return [v for pair in zip(target, caps) for v in pair]
+
+
+def spoiled_cutback(rnd, a, numbers):
+    numbers = list(numbers)
+    for _ in range(rnd.choice([1, 1, 2])):
+        k = rnd.randrange(len(numbers))
+        j = k // 2
+        before = a.cap[j] if k % 2 else a.target[j]
+        numbers[k] = rnd.choice([0, before, before + 1, max(0, numbers[k] - 1), numbers[k] + 1, numbers[2 * j], rnd.choice(NUMBERS)])
+    return numbers
+
+
+def cutback_line(numbers):
+    return 'cutback ' + ' '.join(' %d %d' % pair for pair in zip(numbers[0::2], numbers[1::2]))
+
+
+def cutback(rnd, a):
+    """A cutback in the auction: mostly one that may be given in round 2, and at times a wrong one or a line that is none."""
+    numbers = good_cutback(rnd, a)
+    if rnd.random() < .35:
+        numbers = spoiled_cutback(rnd, a, numbers)
+    line = cutback_line(numbers)
+    return spoiled_text(rnd, line) if rnd.random() < .08 else line
+
+
 def bid_line(i, lines):
     return 'bid %d ' % i + ' '.join(' %d %d %d %d' % tuple(l) for l in lines)
 
@@ -145,7 +185,7 @@ def some_card(rnd, n):
 
 
 def loose_line(rnd):
-    what = rnd.randrange(7)
+    what = rnd.randrange(9)
     n = rnd.choice([1, 2, 3, 4, 5, 6, 7, 8, 8, 0, 9, 256])
     if what == 0:
         return 'read %d %s' % (n, some_card(rnd, n if 1 <= n <= 8 else 1).hex())
@@ -164,7 +204,14 @@ def loose_line(rnd):
     if what == 4:
         return 'file ' + bytes(rnd.randrange(256) for _ in range(rnd.choice([0, 1, 7, 12, 16, 21, 39, 40, 500, 1021]))).hex()
     if what == 5:
-        return rnd.choice(['', '   ', '# remark', '  # remark', 'help', 'nothing', 'open', 'bid', 'file', 'read', 'write', 'count 0'])
+        return rnd.choice(['', '   ', '# remark', '  # remark', 'help', 'nothing', 'open', 'bid', 'file', 'read', 'write', 'count 0',
+                           'cutback', 'suggest', 'suggest 1'])
+    if what == 6:
+        line = 'suggest %d %d' % (rnd.choice(NUMBERS + [51199, 51200, 51201, rnd.randrange(51201), rnd.randrange(51201)]),
+                                  rnd.choice(NUMBERS + [100, 125, 133, 150, rnd.randint(1, 400), rnd.randint(1, 400)]))
+        return line if rnd.random() < .9 else spoiled_text(rnd, line)
+    if what == 7:
+        return 'cutback' + ''.join(' %d' % rnd.choice(NUMBERS) for _ in range(rnd.choice([1, 2, 4, 6, 14, 15, 16, 17, 18])))
     return 'x' * rnd.choice([1, 2047, 2048, 2049, 2050, 4097, 5000]) if rnd.random() < .3 else 'read 2 ' + ' ' * rnd.choice(
         [2016, 2017, 2018, 2019]) + '080100800000001000000080'
 
@@ -183,6 +230,16 @@ def session(rnd, desk, lines, states):
         a = model.load(desk.state)
         if a.phase != model.OPEN:
             break
+        if a.round == 2 and rnd.random() < .6 or rnd.random() < .01:
+            for _ in range(rnd.choice([1, 1, 1, 2, 3])):
+                say(cutback(rnd, a))
+                a = model.load(desk.state)
+                if rnd.random() < .5:
+                    say('show')
+                if rnd.random() < .3:
+                    say('report %d' % rnd.randrange(a.bidders))
+            if a.phase != model.OPEN:
+                break
         who = list(range(a.bidders))
         rnd.shuffle(who)
         absent = rnd.choice([0, 0, 0, 0, 0, 0, .05, .3])
@@ -207,6 +264,8 @@ def session(rnd, desk, lines, states):
                 say(rnd.choice(['count', 'show', 'result', 'report %d' % i, 'report 255']))
             if rnd.random() < .02:
                 say(loose_line(rnd))
+            if rnd.random() < .01:
+                say(cutback(rnd, a))
         if rnd.random() < .3:
             say('show')
         draw = list(range(a.bidders))
@@ -219,6 +278,8 @@ def session(rnd, desk, lines, states):
             say('report %d' % i)
         say('show')
     say('result')
+    if rnd.random() < .1:
+        say(cutback(rnd, a))
     for _ in range(rnd.randint(0, 3)):
         say(loose_line(rnd))
     say(spoiled_text(rnd, rnd.choice(['count', 'result', 'show', 'return', 'report 0', 'help', opening(rnd), opening(rnd), opening(rnd)])))
@@ -242,26 +303,36 @@ def differ(lines, got):
     return None
 
 
+def tallied(tally, line, said):
+    """Counts an answer: `ok`, `error`, or the number of a refusal."""
+    if said and line.split() and line.split()[0].encode() in model.COMMANDS:
+        words = said[0].split()
+        tally[line.split()[0]][words[1] if words[0] == 'refused' else words[0]] += 1
+    return said
+
+
 def play(sessions, seed):
     rnd = random.Random(seed)
     asked = wrong = 0
     states = []
+    tally = collections.defaultdict(collections.Counter)
     for first in range(0, sessions, 50):
         desk, lines = model.Desk(), []
         for _ in range(min(50, sessions - first)):
             session(rnd, desk, lines, states)
         text = '\n'.join(lines).encode() + rnd.choice([b'\n', b''])
         want = model.Desk()
-        told = b''.join(s.encode() + b'\n' for line in lines for s in want.answer(line.encode()))
+        told = b''.join(s.encode() + b'\n' for line in lines for s in tallied(tally, line, want.answer(line.encode())))
         got = run_desk(text)
         asked += len(lines)
         if got != told:
             wrong += 1
             print('DIFFERENCE in sessions from %d:' % first, differ(lines, got))
-    return asked, wrong, states
+    return asked, wrong, states, tally
 
 
-LOOK = ['count', 'report 0', 'report 1', 'result', 'show', 'calculate 0', 'calculate 0 1', 'calculate 1 0 2', 'return', 'file 00']
+LOOK = ['count', 'report 0', 'report 1', 'result', 'show', 'calculate 0', 'calculate 0 1', 'calculate 1 0 2', 'return', 'file 00',
+        'cutback 1 1']
 
 
 def spoiled_state(rnd, state):
@@ -271,6 +342,8 @@ def spoiled_state(rnd, state):
                         261 + 48 * rnd.randrange(6) + rnd.randrange(18), 1797 + 48 * rnd.randrange(6) + rnd.randrange(18),
                         rnd.randrange(3333)])
         state[k] = rnd.choice([0, 1, 2, state[k] ^ 1, (state[k] + 1) % 256, (state[k] - 1) % 256, rnd.randrange(256), 255])
+    if rnd.random() < .2:
+        state[5:7] = bytes([0, 2])  # round 2: a later round's state stands there only where nothing is kept
     state = bytes(state)
     if rnd.random() < .05:
         state = state[:rnd.randrange(3333)] if rnd.random() < .5 else state + bytes(rnd.randint(1, 9))
@@ -293,6 +366,8 @@ def boxes(many, seed, states):
                 rnd.shuffle(draw)
                 lines[2] = 'calculate ' + ' '.join(map(str, draw))
                 lines += ['show', 'report 0']
+            if len(state) == model.LENGTH and 1 <= model.load(state).products <= 8 and rnd.random() < .6:
+                lines[1:1] = [cutback(rnd, model.load(state)), 'show']
             desk = model.Desk(ours)
             told = ''.join(s + '\n' for line in lines for s in desk.answer(line.encode())).encode()
             got = run_desk('\n'.join(lines).encode() + b'\n', theirs)
@@ -307,8 +382,10 @@ def boxes(many, seed, states):
 
 def main():
     sessions, many, seed = (list(map(int, sys.argv[1:])) + [300, 300, 1][len(sys.argv) - 1:])[:3]
-    asked, wrong, states = play(sessions, seed)
+    asked, wrong, states, tally = play(sessions, seed)
     print('%d sessions, %d lines, %d differences' % (sessions, asked, wrong))
+    for command in sorted(tally):
+        print('    %s: %s' % (command, ', '.join('%s %d' % pair for pair in sorted(tally[command].items()))))
     off, stood = boxes(many, seed, states)
     print('%d boxes, %d of them standing or issued, %d differences' % (many, stood, off))
     return 1 if wrong or off else 0

@@ -1,5 +1,5 @@
 #!/usr/bin/env python3
-"""Document 01 and the desk's text, written a second time.
+"""Document 01, with request 3 of document 02, and the desk's text, written a second time.
 
     tests/model.py [BOX] < commands > answers
 
@@ -35,8 +35,10 @@ WORDS = {
     16: "auction not closed",
     17: "a state byte isn't zero",
     18: "open in round 1",
+    20: "a condition on the cutback not met",
     29: "product count not 1 to 8",
     30: "a field too large for its bits, or not 0 past the count",
+    31: "a ratio of 0, or more than 51,200 tranches bid",
 }
 
 
@@ -228,6 +230,8 @@ def stands(a):
             return False
     if a.phase == OPEN:
         if not (as_opened(a) if a.round == 1 else a.excess() > 0):
+            return False
+        if a.round == 2 and any(a.kept(j) > 0 for j in range(a.products)):
             return False
         return all(judged(a, i, a.slot[i]) == 0 for i in range(a.bidders) if a.has_filed(i))
     if a.filed != 0:
@@ -436,6 +440,48 @@ def next_price(a, j):
     return a.p[j] - max(1, cut)
 
 
+# ---- Volume cutback after round 1
+
+def may_cut(a, target, cap):
+    """Whether these revised targets and caps, one of each a product, may be given now."""
+    if a.round != 2 or a.filed != 0:
+        return False
+    for j in range(a.products):
+        # "none larger than before and none 0, targets still ranked, caps at most targets"
+        if not (1 <= target[j] <= a.target[j] and 1 <= cap[j] <= a.cap[j] and cap[j] <= target[j]):
+            return False
+        if j > 0 and target[j] > target[j - 1]:
+            return False
+    # "The statewide cap stays, so a new volume below it is refused."
+    return sum(target) >= a.statewide
+
+
+def cut_back(a, target, cap):
+    """Changes the auction."""
+    for j in range(a.products):
+        a.target[j], a.cap[j] = target[j], cap[j]
+    # "A bidder above a reduced cap is set to the cap, and the difference becomes its free eligibility."
+    for i in range(a.bidders):
+        for j in range(a.products):
+            over = max(0, a.record[i][j].g - a.cap[j])
+            a.record[i][j].g -= over
+            a.free[i] += over
+    # "Round 2 prices are worked out afresh from the starting prices and the reduced book"; "Step 5's stop applies again."
+    a.p, a.q = list(a.start), list(a.start)
+    if a.must_stop():
+        a.phase = STOPPED
+    else:
+        for j in range(a.products):
+            if a.standing(j) > 0:
+                a.p[j] = next_price(a, j)
+
+
+def suggested_volume(bid, ratio):
+    if ratio == 0 or bid > 51200:
+        raise Refused(31)
+    return bid * 100 // ratio
+
+
 # ---- Report and result
 
 def range_of(excess):
@@ -517,11 +563,21 @@ class Reader:
             out.append(self.number())
         return out
 
-    def lines_to_end(self):
-        out = self.numbers_to_end(4 * PRODUCTS)
-        if len(out) % 4:
-            raise Wrong('a product has tranches, withdrawn, exit and priority; a number is missing', self.at())
+    def groups_to_end(self, size, what):
+        """Up to 8 groups of `size` numbers, one a product."""
+        out = self.numbers_to_end(size * PRODUCTS)
+        if len(out) % size:
+            raise Wrong('a product has %s; a number is missing' % what, self.at())
         return out
+
+    def lines_to_end(self):
+        return self.groups_to_end(4, 'tranches, withdrawn, exit and priority')
+
+    def as_many(self, numbers, first, most, what):
+        """`most` numbers, of which the first is the word `first` of the line."""
+        if len(numbers) != most:
+            self.next = min(first + most, len(self.words))
+            raise Wrong(what, self.at())
 
     def hex(self):
         if self.at_end():
@@ -645,9 +701,7 @@ class Desk:
         first = r.next
         numbers = r.lines_to_end()
         a = with_bids_open(self.state)
-        if len(numbers) != 4 * a.products:
-            r.next = min(first + 4 * a.products, len(r.words))
-            raise Wrong('a bid in this auction has four numbers for each of %d products' % a.products, r.at())
+        r.as_many(numbers, first, 4 * a.products, 'a bid in this auction has four numbers for each of %d products' % a.products)
         card = write_card(a.products, bidder, a.round, groups(numbers))
         self.file_card(card)
         return ['ok ' + card.hex()]
@@ -665,6 +719,23 @@ class Desk:
         counts = calculate(a, draw)
         self.keep(store(a))
         return ['ok kept %d outbid %d' % counts]
+
+    def cutback(self, r):
+        first = r.next
+        numbers = r.groups_to_end(2, 'a revised target and a revised cap')
+        a = with_bids_open(self.state)
+        r.as_many(numbers, first, 2 * a.products, 'a cutback in this auction has two numbers for each of %d products' % a.products)
+        target, cap = numbers[0::2], numbers[1::2]
+        if not may_cut(a, target, cap):
+            raise Refused(20)
+        cut_back(a, target, cap)
+        self.keep(store(a))
+        return ['ok']
+
+    def suggest(self, r):
+        bid, ratio = r.number(), r.number()
+        r.done()
+        return ['ok %d' % suggested_volume(bid, ratio)]
 
     def report(self, r):
         i = r.number()
@@ -736,8 +807,8 @@ class Desk:
 
 COMMANDS = {
     b'open': Desk.open, b'file': Desk.file, b'bid': Desk.bid, b'count': Desk.count, b'calculate': Desk.calculate,
-    b'report': Desk.report, b'result': Desk.result, b'show': Desk.show, b'return': Desk.give_back, b'read': Desk.read,
-    b'write': Desk.write, b'help': Desk.help,
+    b'suggest': Desk.suggest, b'cutback': Desk.cutback, b'report': Desk.report, b'result': Desk.result, b'show': Desk.show,
+    b'return': Desk.give_back, b'read': Desk.read, b'write': Desk.write, b'help': Desk.help,
 }
 
 HELP = [
@@ -750,6 +821,10 @@ HELP = [
     "      T W X P are a product's tranches, withdrawn, exit and priority",
     '  count   how many bidders are still to file',
     '  calculate D0 D1 ..   calculate the round; the bidders in draw order',
+    '  suggest BID RATIO   the suggested volume for BID tranches bid:',
+    '      RATIO is the target ratio in hundredths',
+    '  cutback T C ..   cut the volume after round 1, before a card of round 2 is filed:',
+    "      T C are a product's revised target and cap",
     '  report B   the report to bidder B',
     '  result   awards and prices of a closed auction',
     '  show   the whole state',

@@ -12,6 +12,8 @@ enum Command {
     Bid,
     Count,
     Calculate,
+    Suggest,
+    Cutback,
     Report,
     Result,
     Show,
@@ -51,6 +53,12 @@ fn command_of(w: &[u8]) -> Command {
     if same(w, b"calculate") {
         return Command::Calculate;
     }
+    if same(w, b"suggest") {
+        return Command::Suggest;
+    }
+    if same(w, b"cutback") {
+        return Command::Cutback;
+    }
     if same(w, b"report") {
         return Command::Report;
     }
@@ -83,6 +91,12 @@ fn help(line: &[u8], c: Cursor) {
         say_line(b"      T W X P are a product's tranches, withdrawn, exit and priority\n");
         say_line(b"  count   how many bidders are still to file\n");
         say_line(b"  calculate D0 D1 ..   calculate the round; the bidders in draw order\n");
+        say_line(b"  suggest BID RATIO   the suggested volume for BID tranches bid:\n");
+        say_line(b"      RATIO is the target ratio in hundredths\n");
+        say_line(
+            b"  cutback T C ..   cut the volume after round 1, before a card of round 2 is filed:\n",
+        );
+        say_line(b"      T C are a product's revised target and cap\n");
         say_line(b"  report B   the report to bidder B\n");
         say_line(b"  result   awards and prices of a closed auction\n");
         say_line(b"  show   the whole state\n");
@@ -113,6 +127,8 @@ pub fn answer(line: &[u8], kind: Kind, path: &[u8], state: &mut [u8; 3333])
         Command::Bid => carding::bid(line, c, kind, path, state),
         Command::Count => calling::count(line, c, kind, state),
         Command::Calculate => calling::calculate(line, c, kind, path, state),
+        Command::Suggest => calling::suggest(line, c),
+        Command::Cutback => calling::cutback(line, c, kind, path, state),
         Command::Report => calling::report(line, c, kind, state),
         Command::Result => calling::result(line, c, kind, state),
         Command::Show => calling::show(line, c, kind, state),

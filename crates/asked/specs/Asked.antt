@@ -16,6 +16,7 @@ use Rattle.rules.specs.Count.{listOf}
 use Rattle.rules.specs.Settings.{row}
 use Rattle.rules.specs.Units.{tranches, priceOf}
 use Rattle.asked.specs.declared.opening.Sizes.{Sizes}
+use Rattle.asked.specs.declared.cutting.Revised.{Revised}
 
 -- a number in 8 and in 16 bits; one that is too large is the largest
 abbrev pub byteOf : ℕ → ℕ
@@ -76,3 +77,15 @@ lineAsked b w x k = line (pairOf b) (pairOf w) x (byteOf k)
 abbrev pub lineAskedAt : List ℕ → ℕ → Line
 lineAskedAt ns p =
     lineAsked (typed ns (p * 4)) (typed ns (p * 4 + 1)) (typed ns (p * 4 + 2)) (typed ns (p * 4 + 3))
+
+-- ---- a cutback
+
+abbrev pub targetAt : List ℕ → ℕ → Tranches
+targetAt ns p = tranches (pairOf (typed ns (p * 2)))
+
+abbrev pub capAt : List ℕ → ℕ → Tranches
+capAt ns p = tranches (pairOf (typed ns (p * 2 + 1)))
+
+-- the revised targets and caps of `cutback`, from its numbers
+unfoldable pub revisedAsked : List ℕ → Revised
+revisedAsked ns = record { targets = listOf (targetAt ns) 8; caps = listOf (capAt ns) 8 }

@@ -6,6 +6,7 @@ ghost use Rattle.asked.specs.Typed.{typedAt};
 use crate::numbers::all_numbers;
 use crate::numbers::ends;
 use crate::numbers::one_byte;
+use crate::numbers::other_count;
 use crate::numbers::two_bytes;
 use rules::Line;
 use rules::Lot;
@@ -60,6 +61,24 @@ pub fn groups(line: &[u8], c: Cursor, out: &mut [u32; 40]) -> usize
         line.len(),
     );
     9
+}
+
+fn groups_length(products: usize) -> usize {
+    if products <= 8 {
+        return products * 4;
+    }
+    32
+}
+
+// The groups are those of more or fewer products than the auction has.
+pub fn other_groups(line: &[u8], c: Cursor, products: usize) {
+    other_count(
+        line,
+        c,
+        groups_length(products),
+        b"a bid in this auction has four numbers for each of ",
+        products,
+    );
 }
 
 // A card up to the end of a line: how many bytes it has, or 1025 where something is wrong and was said.

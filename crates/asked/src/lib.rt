@@ -1,19 +1,24 @@
-// What is typed after a command's word: plain numbers, a card's bytes, settings and bid lines. What is wrong is said here, with its
+// What is typed after a command's word: plain numbers, a card's bytes, settings, bid lines, a cutback. What is wrong is said here, with its
 // column, and the answer tells no more than that it was said.
 mod bidding;
+mod cutting;
 mod numbers;
 mod opening;
 
 pub use bidding::card;
 pub use bidding::groups;
 pub use bidding::lines_of;
+pub use bidding::other_groups;
+pub use cutting::Revised;
+pub use cutting::other_pairs;
+pub use cutting::pairs;
+pub use cutting::revised_of;
 pub use numbers::One;
 pub use numbers::all_numbers;
 pub use numbers::draw_of;
 pub use numbers::ends;
 pub use numbers::one_byte;
 pub use numbers::one_number;
-pub use numbers::place_after;
 pub use numbers::two_bytes;
 pub use opening::Opening;
 pub use opening::settings;

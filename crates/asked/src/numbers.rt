@@ -4,6 +4,8 @@ ghost use Rattle.rules.specs.Count.{listOf};
 ghost use Prim.Native.Nat.{_≤_};
 ghost use Rattle.asked.specs.Asked.{byteOf, pairOf, drawnAt};
 ghost use Rattle.asked.specs.Typed.{limitOf, typedAt};
+use say::put;
+use say::put_named;
 use say::wrong;
 use words::Cursor;
 use words::Take;
@@ -120,12 +122,31 @@ pub fn all_numbers(line: &[u8], c: Cursor, most: usize, out: &mut [u32; 40]) -> 
 }
 
 // Where the word after the first `most` numbers stands, or should stand.
-pub fn place_after(line: &[u8], c: Cursor, most: usize) -> usize {
+fn place_after(line: &[u8], c: Cursor, most: usize) -> usize {
     let mut out = [0u32; 40];
     match take_numbers(line, c, most, &mut out) {
         List::Found(_, next) => word(line, next).from,
         List::TooLarge(p) => p,
     }
+}
+
+fn wrong_part(text: &[u8], n: usize, at: usize) {
+    if n <= text.len() {
+        wrong(&text[0..n], at);
+    }
+}
+
+fn wrong_gathered(text: &[u8; 1024], n: usize, at: usize) {
+    wrong_part(text, n, at);
+}
+
+// Other than the `most` numbers that `products` products have, which `has` begins to say: at the first that is too many, or where
+// one is missing.
+pub fn other_count(line: &[u8], c: Cursor, most: usize, has: &[u8], products: usize) {
+    let mut text = [0u8; 1024];
+    let a = put_named(&mut text, 0, has, products as u64);
+    let b = put(&mut text, a, b" products");
+    wrong_gathered(&text, b, place_after(line, c, most));
 }
 
 // A number in the bits of a setting, a card's field or a draw. One that they do not hold becomes the largest that they hold,

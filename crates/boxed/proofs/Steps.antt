@@ -6,8 +6,9 @@ use mathlib.Core.List.{List, [], _∷_, _++_}
 use Prim.Native.Nat.{ℕ}
 use lib.ListN.{length}
 use Rattle.rules.specs.declared.Settings.{Settings}
-use Rattle.rules.specs.Calls.{openCall, fileCall, calculateCall, returnCall}
-use Rattle.promises.specs.Runs.{opens, files, calculates, after}
+use Rattle.rules.specs.declared.Tranches.{Tranches}
+use Rattle.rules.specs.Calls.{openCall, fileCall, calculateCall, cutbackCall, returnCall}
+use Rattle.promises.specs.Runs.{opens, files, calculates, cuts, after}
 use Rattle.promises.specs.Hires.{IssuedOrStanding, Use, called, returned, used}
 use Rattle.promises.proofs.Astray.{never-astray}
 use Rattle.boxed.specs.Called.{Called, Reached}
@@ -21,6 +22,9 @@ module _ (s t : List ℕ) where
 
   pub calculated : (draw : List ℕ) → t ≡ calculateCall s draw .bytes → Called s t
   calculated draw e = inr (called (calculates draw) tt, e)
+
+  pub cut : (targets caps : List Tranches) → t ≡ cutbackCall s targets caps .bytes → Called s t
+  cut targets caps e = inr (called (cuts targets caps) tt, e)
 
   pub returned-once : t ≡ returnCall s .bytes → Called s t
   returned-once e = inr (returned, e)

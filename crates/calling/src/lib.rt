@@ -1,10 +1,15 @@
-// The calls on an auction. A call that changes the state is made on a copy of it: a line leaves the state as it was, or as one call does.
+// The calls on an auction, and the suggested volume. A call that changes the state is made on a copy of it: a line leaves the state
+// as it was, or as one call does.
 ghost use Rattle.boxed.specs.Called.{Called};
 use asked::One;
+use asked::Revised;
 use asked::draw_of;
 use asked::ends;
 use asked::one_byte;
 use asked::one_number;
+use asked::other_pairs;
+use asked::pairs;
+use asked::revised_of;
 use boxed::Kind;
 use boxed::is_wrong;
 use boxed::keep;
@@ -17,6 +22,7 @@ use rules::Count;
 use rules::Report;
 use rules::Reported;
 use rules::Settings;
+use rules::Volume;
 use say::line as say_line;
 use say::put;
 use say::put_named;
@@ -90,7 +96,8 @@ fn count_on(kind: Kind, state: &[u8; 3333]) -> Count {
     console::count(state)
 }
 
-fn counted(n: u32) {
+// `ok N`
+fn say_number(n: u32) {
     let mut out = [0u8; 1024];
     let a = put_named(&mut out, 0, b"ok ", n as u64);
     let b = put(&mut out, a, b"\n");
@@ -100,7 +107,7 @@ fn counted(n: u32) {
 pub fn count(line: &[u8], c: Cursor, kind: Kind, state: &[u8; 3333]) {
     if ends(line, c) {
         match count_on(kind, state) {
-            Count::ToFile(n) => counted(n),
+            Count::ToFile(n) => say_number(n),
             Count::Refused(n) => refused(n),
         }
     }
@@ -152,6 +159,60 @@ pub fn calculate(line: &[u8], c: Cursor, kind: Kind, path: &[u8], state: &mut [u
             }
         }
         Calculation::Refused(n) => refused(n),
+    }
+}
+
+// ---- `suggest BID RATIO`
+
+pub fn suggest(line: &[u8], c: Cursor) {
+    let One::Number(bid, at_ratio) = one_number(line, c) else {
+        return;
+    };
+    let One::Number(ratio, next) = one_number(line, at_ratio) else {
+        return;
+    };
+    if ends(line, next) {
+        match console::suggested_volume(bid, ratio) {
+            Volume::Suggested(n) => say_number(n),
+            Volume::Refused(n) => refused(n),
+        }
+    }
+}
+
+// ---- `cutback T C ..`
+
+fn cut(kind: Kind, path: &[u8], state: &mut [u8; 3333], revised: Revised)
+    ensures { λ _. ⌜ Called (now (state .entry)) (now (state .exit)) ⌝ }
+{
+    let mut work = *state;
+    let targets = revised.targets;
+    let caps = revised.caps;
+    match console::cutback(&mut work, targets, caps) {
+        Answer::Done => done(kind, path, state, work),
+        Answer::Refused(n) => refused(n),
+    }
+}
+
+pub fn cutback(line: &[u8], c: Cursor, kind: Kind, path: &[u8], state: &mut [u8; 3333])
+    ensures { λ _. ⌜ Called (now (state .entry)) (now (state .exit)) ⌝ }
+{
+    let mut numbers = [0u32; 40];
+    let k = pairs(line, c, &mut numbers);
+    if 8 < k {
+        return;
+    }
+    // 1, 2 and 3 go before the number of pairs, as with a bid
+    match count_on(kind, state) {
+        Count::ToFile(_) => {
+            let a = state::load(state);
+            let products = a.terms.products as usize;
+            if k == products {
+                cut(kind, path, state, revised_of(numbers));
+            } else {
+                other_pairs(line, c, products);
+            }
+        }
+        Count::Refused(n) => refused(n),
     }
 }
 

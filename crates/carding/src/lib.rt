@@ -5,6 +5,7 @@ use asked::groups;
 use asked::lines_of;
 use asked::one_byte;
 use asked::one_number;
+use asked::other_groups;
 use asked::two_bytes;
 use boxed::Kind;
 use boxed::is_wrong;
@@ -17,7 +18,6 @@ use rules::Line;
 use say::line as say_line;
 use say::put;
 use say::put_hex;
-use say::put_named;
 use say::send;
 use told::refused;
 use words::Cursor;
@@ -192,13 +192,6 @@ fn filed(kind: Kind, path: &[u8], state: &mut [u8; 3333], card: &[u8; 39], n: us
     }
 }
 
-fn groups_length(products: usize) -> usize {
-    if products <= 8 {
-        return products * 4;
-    }
-    32
-}
-
 // The number of products that a bid of the present round must have; 0 where there is none to be filed, and its number is said.
 fn products_of(kind: Kind, state: &[u8; 3333]) -> usize {
     let n = number_on(kind, state);
@@ -212,29 +205,6 @@ fn products_of(kind: Kind, state: &[u8; 3333]) -> usize {
         return 0;
     }
     a.terms.products as usize
-}
-
-fn wrong_part(text: &[u8], n: usize, at: usize) {
-    if n <= text.len() {
-        say::wrong(&text[0..n], at);
-    }
-}
-
-fn wrong_gathered(text: &[u8; 1024], n: usize, at: usize) {
-    wrong_part(text, n, at);
-}
-
-// The numbers are those of more or fewer products than the auction has, up to a place.
-fn other_count(products: usize, at: usize) {
-    let mut text = [0u8; 1024];
-    let a = put_named(
-        &mut text,
-        0,
-        b"a bid in this auction has four numbers for each of ",
-        products as u64,
-    );
-    let b = put(&mut text, a, b" products");
-    wrong_gathered(&text, b, at);
 }
 
 pub fn bid(line: &[u8], c: Cursor, kind: Kind, path: &[u8], state: &mut [u8; 3333])
@@ -253,10 +223,7 @@ pub fn bid(line: &[u8], c: Cursor, kind: Kind, path: &[u8], state: &mut [u8; 333
         return;
     }
     if k != products {
-        other_count(
-            products,
-            asked::place_after(line, next, groups_length(products)),
-        );
+        other_groups(line, next, products);
         return;
     }
     let a = state::load(state);

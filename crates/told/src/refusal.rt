@@ -1,4 +1,4 @@
-// `refused N WORDS`: a refusal's number, and document 01's words for it.
+// `refused N WORDS`: a refusal's number, and the words of documents 01 and 02 for it.
 use say::put;
 use say::put_named;
 use say::send;
@@ -42,6 +42,8 @@ fn words(out: &mut [u8; 1024], at: usize, n: u8) -> usize {
         16 => put(out, at, b"auction not closed"),
         17 => put(out, at, b"a state byte isn't zero"),
         18 => put(out, at, b"open in round 1"),
+        20 => put(out, at, b"a condition on the cutback not met"),
+        31 => put(out, at, b"a ratio of 0, or more than 51,200 tranches bid"),
         _ => card_words(out, at, n),
     }
 }

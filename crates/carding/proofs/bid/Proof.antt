@@ -28,14 +28,8 @@ products-of-requires c κs = search needs
 returns-3 : tie.Need-returns-3
 returns-3 c = inl refl
 
-groups-length-requires : tie.Need-groups-length-requires
-groups-length-requires c κs = search needs
-
-place-after-requires : tie.Need-place-after-requires
-place-after-requires c κs = search needs
-
-other-count-requires : tie.Need-other-count-requires
-other-count-requires c κs = search needs
+other-groups-requires : tie.Need-other-groups-requires
+other-groups-requires c κs = search needs
 
 returns-4 : tie.Need-returns-4
 returns-4 c = inl refl
@@ -85,9 +79,7 @@ bid-spec =
     returns-2
     products-of-requires
     returns-3
-    groups-length-requires
-    place-after-requires
-    other-count-requires
+    other-groups-requires
     returns-4
     load-requires
     lines-of-requires
