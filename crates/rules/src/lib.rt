@@ -1,5 +1,5 @@
-// The words of document 01 as types, with the small methods that belong to them. What they mean stands in specs/, in the order
-// of the document.
+// The words of documents 01 and 02 as types, with the small methods that belong to them. What they mean stands in specs/, in the
+// order of document 01.
 ghost use mathlib.Core.Path.{_≡_};
 ghost use Prim.Native.Nat.{_+_, _-_, _≤_, _<_};
 ghost use Rattle.rules.specs.Units.{kwh, mwDay, unitNumber, unitOf, amountOf, priceOf};
@@ -533,7 +533,7 @@ pub struct Calculated {
 
 // ---- Answers: each call's own, or the number of its refusal
 
-// Of open, file, return and write.
+// Of open, file, cutback, return and write.
 pub enum Answer {
     Done,
     Refused(u8),
