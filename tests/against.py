@@ -29,7 +29,7 @@ def opening(rnd):
     caps = [t if rnd.random() < .6 else rnd.randint(1, t) for t in targets]
     price = rnd.choice([1, 2, 5, 20, 300, 1000, 14500, 99999])
     prices = [price if rnd.random() < .5 else rnd.randint(1, price) for _ in range(n)]
-    statewide = sum(targets) if rnd.random() < .4 else rnd.randint(1, sum(targets))
+    statewide = sum(targets) if rnd.random() < .3 else rnd.randint(1, sum(targets))
     eligible = [statewide if rnd.random() < .4 else rnd.randint(1, statewide) for _ in range(m)]
     rows, percent = [], 0
     for _ in range(rnd.randint(1, 8)):
@@ -111,13 +111,15 @@ def good_cutback(rnd, a):
     n = a.products
     target = a.target[:n]
     spare = sum(target) - a.statewide
-    for _ in range(rnd.choice([0, 1, 2, 5, 20])):
+    for _ in range(rnd.choice([0, 1, 5, 20, 20])):
         j = rnd.randrange(n)
         least = target[j + 1] if j + 1 < n else 1
-        less = rnd.randint(0, max(0, min(spare, target[j] - least)))
+        most = max(0, min(spare, target[j] - least))
+        less = rnd.choice([1 if most else 0, most, rnd.randint(0, most)])
         target[j] -= less
         spare -= less
-    caps = [min(c, t) if rnd.random() < .4 else rnd.randint(1, max(1, min(c, t))) for t, c in zip(target, a.cap)]
+    lower = rnd.choice([0, .3, .6, 1])
+    caps = [rnd.randint(1, max(1, min(c, t))) if rnd.random() < lower else min(c, t) for t, c in zip(target, a.cap)]
     return [v for pair in zip(target, caps) for v in pair]
 
 

@@ -181,13 +181,19 @@ pub fn suggest(line: &[u8], c: Cursor) {
 
 // ---- `cutback T C ..`
 
+fn cutback_on(work: &mut [u8; 3333], revised: Revised) -> Answer
+    ensures { λ _. ⌜ Called (now (work .entry)) (now (work .exit)) ⌝ }
+{
+    let targets = revised.targets;
+    let caps = revised.caps;
+    console::cutback(work, targets, caps)
+}
+
 fn cut(kind: Kind, path: &[u8], state: &mut [u8; 3333], revised: Revised)
     ensures { λ _. ⌜ Called (now (state .entry)) (now (state .exit)) ⌝ }
 {
     let mut work = *state;
-    let targets = revised.targets;
-    let caps = revised.caps;
-    match console::cutback(&mut work, targets, caps) {
+    match cutback_on(&mut work, revised) {
         Answer::Done => done(kind, path, state, work),
         Answer::Refused(n) => refused(n),
     }

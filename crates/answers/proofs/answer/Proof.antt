@@ -61,47 +61,59 @@ calculate-requires c κs = search needs
 enum-told-6 : tie.Need-enum-told-6
 enum-told-6 c = search needs
 
-report-requires : tie.Need-report-requires
-report-requires c κs = search needs
+suggest-requires : tie.Need-suggest-requires
+suggest-requires c κs = search needs
 
 enum-told-7 : tie.Need-enum-told-7
 enum-told-7 c = search needs
 
-result-requires : tie.Need-result-requires
-result-requires c κs = search needs
+cutback-requires : tie.Need-cutback-requires
+cutback-requires c κs = search needs
 
 enum-told-8 : tie.Need-enum-told-8
 enum-told-8 c = search needs
 
-show-requires : tie.Need-show-requires
-show-requires c κs = search needs
+report-requires : tie.Need-report-requires
+report-requires c κs = search needs
 
 enum-told-9 : tie.Need-enum-told-9
 enum-told-9 c = search needs
 
-return-box-requires : tie.Need-return-box-requires
-return-box-requires c κs = search needs
+result-requires : tie.Need-result-requires
+result-requires c κs = search needs
 
 enum-told-10 : tie.Need-enum-told-10
 enum-told-10 c = search needs
 
-read-requires : tie.Need-read-requires
-read-requires c κs = search needs
+show-requires : tie.Need-show-requires
+show-requires c κs = search needs
 
 enum-told-11 : tie.Need-enum-told-11
 enum-told-11 c = search needs
 
-write-requires : tie.Need-write-requires
-write-requires c κs = search needs
+return-box-requires : tie.Need-return-box-requires
+return-box-requires c κs = search needs
 
 enum-told-12 : tie.Need-enum-told-12
 enum-told-12 c = search needs
 
-help-requires : tie.Need-help-requires
-help-requires c κs = search needs
+read-requires : tie.Need-read-requires
+read-requires c κs = search needs
 
 enum-told-13 : tie.Need-enum-told-13
 enum-told-13 c = search needs
+
+write-requires : tie.Need-write-requires
+write-requires c κs = search needs
+
+enum-told-14 : tie.Need-enum-told-14
+enum-told-14 c = search needs
+
+help-requires : tie.Need-help-requires
+help-requires c κs = search needs
+
+enum-told-15 : tie.Need-enum-told-15
+enum-told-15 c = search needs
 
 slice-aggregate-wrong : tie.Need-slice-aggregate-wrong
 slice-aggregate-wrong c = search needs
@@ -128,25 +140,31 @@ returns-8 : tie.Need-returns-8
 returns-8 c = inl refl
 
 returns-9 : tie.Need-returns-9
-returns-9 c = inl refl
+returns-9 c = search needs
 
 returns-10 : tie.Need-returns-10
 returns-10 c = inl refl
 
 returns-11 : tie.Need-returns-11
-returns-11 c = search needs
+returns-11 c = inl refl
 
 returns-12 : tie.Need-returns-12
 returns-12 c = inl refl
 
 returns-13 : tie.Need-returns-13
-returns-13 c = inl refl
+returns-13 c = search needs
 
 returns-14 : tie.Need-returns-14
 returns-14 c = inl refl
 
 returns-15 : tie.Need-returns-15
 returns-15 c = inl refl
+
+returns-16 : tie.Need-returns-16
+returns-16 c = inl refl
+
+returns-17 : tie.Need-returns-17
+returns-17 c = inl refl
 
 pub answer-spec : {M : Type 1} → statement M
 answer-spec =
@@ -171,20 +189,24 @@ answer-spec =
     enum-told-5
     calculate-requires
     enum-told-6
-    report-requires
+    suggest-requires
     enum-told-7
-    result-requires
+    cutback-requires
     enum-told-8
-    show-requires
+    report-requires
     enum-told-9
-    return-box-requires
+    result-requires
     enum-told-10
-    read-requires
+    show-requires
     enum-told-11
-    write-requires
+    return-box-requires
     enum-told-12
-    help-requires
+    read-requires
     enum-told-13
+    write-requires
+    enum-told-14
+    help-requires
+    enum-told-15
     slice-aggregate-wrong
     wrong-requires
     returns-3
@@ -199,4 +221,6 @@ answer-spec =
     returns-12
     returns-13
     returns-14
-    returns-15)
+    returns-15
+    returns-16
+    returns-17)
