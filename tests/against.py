@@ -31,6 +31,13 @@ def opening(rnd):
     prices = [price if rnd.random() < .5 else rnd.randint(1, price) for _ in range(n)]
     statewide = sum(targets) if rnd.random() < .3 else rnd.randint(1, sum(targets))
     eligible = [statewide if rnd.random() < .4 else rnd.randint(1, statewide) for _ in range(m)]
+    if rnd.random() < .3:  # a thin first round, with room for a cutback; one that makes a product at price 1 too much stops
+        n = rnd.randint(2, 4)
+        targets = sorted((rnd.randint(2, 9) for _ in range(n)), reverse=True)
+        caps = [rnd.randint(t // 2 + 1, t) for t in targets]
+        prices = [1 if rnd.random() < .3 else rnd.choice([2, 1000, 14500]) for _ in range(n)]
+        statewide = sum(targets) * rnd.randint(40, 70) // 100
+        eligible = [statewide] * rnd.choice([2, 2, 3])
     rows, percent = [], 0
     for _ in range(rnd.randint(1, 8)):
         rows.append((percent, rnd.choice([50, 100, 175, 300, 425, 500, rnd.randint(50, 500)])))
