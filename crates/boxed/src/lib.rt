@@ -1,6 +1,7 @@
 // Where the state lives, and what is done with a state that a call has changed.
 ghost use mathlib.Core.Bool.{cond};
 ghost use mathlib.Core.Path.{_≡_};
+use rules::Report;
 use say::line;
 use store::Saved;
 
@@ -61,11 +62,23 @@ pub fn keep(kind: Kind, path: &[u8], state: &mut [u8; 3333], work: [u8; 3333]) -
     true
 }
 
-// 1, 2, and 3 for an issued state; 0 where the state stands.
+// 1, 2, and 3 for an issued state, as a report says them; 0 where the state stands, which has a bidder 0.
+fn said_of(s: &[u8]) -> u8 {
+    let told = console::report(s, 0);
+    let report = told.report;
+    let Report::Refused(n) = report else {
+        return 0;
+    };
+    if n > 3 {
+        return 0;
+    }
+    n
+}
+
 pub fn number_on(kind: Kind, state: &[u8; 3333]) -> u8 {
     if is_wrong(kind) {
         let other = [0u8; 1];
-        return console::state_number(&other);
+        return said_of(&other);
     }
-    console::state_number(state)
+    said_of(state)
 }

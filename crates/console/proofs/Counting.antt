@@ -9,6 +9,7 @@ use lib.Count.{ones, ones-le}
 use lib.Pow.{pow-pos, shr-lt}
 use Rattle.rules.specs.declared.Auction.{Auction}
 use Rattle.rules.specs.Bid.{hasFiled}
+use Rattle.rules.specs.Calls.{toFile}
 use Rattle.rules.specs.Stands.{Stands}
 use Rattle.rules.proofs.Bids.{filed-in-use}
 
@@ -40,3 +41,11 @@ module _ (a : Auction) (S : Stands a) (h : a .filed < 4294967296) where
       let e : n + (32 - n) ≡ 32 = omega (arith, L .bidders) in
       ones-le n (a .filed)
       (under (a .filed) n (32 - n) (subst (λ k. a .filed < 2 ^ k) (sym e) h) (λ i l g. unset-by i (omega arith) l (hasFiled a i) refl))
+
+-- what is counted, however it is written
+module _ (a : Auction) (n marks : ℕ) (e : n ≡ a .terms .bidders) (f : marks ≡ a .filed) where
+  pub counted-few : ones (a .filed) ≤ a .terms .bidders → ones marks ≤ n
+  counted-few h = rw (e, f) h
+
+  pub counted : n - ones marks ≡ toFile a
+  counted = rw (e, f)

@@ -1,4 +1,5 @@
 pub mod Answering
+pub mod Largest
 pub mod Counting
 pub mod Opening
 pub mod Fitting

@@ -1,8 +1,8 @@
 // The console: the calls of documents 01 and 02 on lent bytes, and nothing else. Each call's contract is its one definition in the
-// crate rules, specs/Calls.antt: its answer and every byte that it may write, for every input.
-ghost use mathlib.Core.Path.{_≡_};
+// crate rules, specs/Calls.antt: its answer and every byte that it may write, for every input. `Leaves` and `Gives` are the shape of a
+// contract; any two outcomes that have it coincide (rules/OneCall: leaves-one, gives-one).
+ghost use Rattle.rules.specs.Answers.{Leaves, Gives};
 ghost use Rattle.rules.specs.Calls.{openCall, fileCall, countCall, calculateCall, cutbackCall, reportCall, resultCall, returnCall, readCall, writeCall, suggestedCall};
-pub use numbers::state_number;
 use rules::Answer;
 use rules::Awarded;
 use rules::Calculation;
@@ -16,7 +16,7 @@ use rules::Volume;
 
 // Open an auction: 1, 17, 15.
 pub fn open(s: &mut [u8], given: Settings) -> Answer
-    ensures { λ r. ⌜ (r ≡ openCall (now (s .entry)) given .answer) × (now (s .exit) ≡ openCall (now (s .entry)) given .bytes) ⌝ }
+    ensures { λ r. ⌜ Leaves (openCall (now (s .entry)) given) r (now (s .exit)) ⌝ }
 {
     if s.len() != 3333 {
         return Answer::Refused(1);
@@ -34,7 +34,7 @@ pub fn open(s: &mut [u8], given: Settings) -> Answer
 
 // File a bid card: 1, 2, 3, 4, 5, 6 to 13.
 pub fn file(s: &mut [u8], card: &[u8]) -> Answer
-    ensures { λ r. ⌜ (r ≡ fileCall (now (s .entry)) (now (card .entry)) .answer) × (now (s .exit) ≡ fileCall (now (s .entry)) (now (card .entry)) .bytes) ⌝ }
+    ensures { λ r. ⌜ Leaves (fileCall (now (s .entry)) (now (card .entry))) r (now (s .exit)) ⌝ }
 {
     let n = numbers::file_number(s, card);
     if n != 0 {
@@ -47,7 +47,7 @@ pub fn file(s: &mut [u8], card: &[u8]) -> Answer
 
 // Count the bidders still to file: 1, 2, 3.
 pub fn count(s: &[u8]) -> Count
-    ensures { λ r. ⌜ r ≡ countCall (now (s .entry)) ⌝ }
+    ensures { λ r. ⌜ Gives (countCall (now (s .entry))) r ⌝ }
 {
     let n = numbers::count_number(s);
     if n != 0 {
@@ -60,7 +60,7 @@ pub fn count(s: &[u8]) -> Count
 
 // Calculate a round: 1, 2, 3, 14.
 pub fn calculate(s: &mut [u8], draw: &[u8]) -> Calculation
-    ensures { λ r. ⌜ (r ≡ calculateCall (now (s .entry)) (now (draw .entry)) .answer) × (now (s .exit) ≡ calculateCall (now (s .entry)) (now (draw .entry)) .bytes) ⌝ }
+    ensures { λ r. ⌜ Leaves (calculateCall (now (s .entry)) (now (draw .entry))) r (now (s .exit)) ⌝ }
 {
     let n = numbers::calculate_number(s, draw);
     if n != 0 {
@@ -77,7 +77,7 @@ pub fn calculate(s: &mut [u8], draw: &[u8]) -> Calculation
 
 // Cut the volume back after round 1: 1, 2, 3, 20.
 pub fn cutback(s: &mut [u8], targets: [Tranches; 8], caps: [Tranches; 8]) -> Answer
-    ensures { λ r. ⌜ (r ≡ cutbackCall (now (s .entry)) targets caps .answer) × (now (s .exit) ≡ cutbackCall (now (s .entry)) targets caps .bytes) ⌝ }
+    ensures { λ r. ⌜ Leaves (cutbackCall (now (s .entry)) targets caps) r (now (s .exit)) ⌝ }
 {
     let n = numbers::cutback_number(s, targets, caps);
     if n != 0 {
@@ -90,7 +90,7 @@ pub fn cutback(s: &mut [u8], targets: [Tranches; 8], caps: [Tranches; 8]) -> Ans
 
 // Report to one bidder: 1, 2, 3 (issued), 6, 18.
 pub fn report(s: &[u8], bidder: u8) -> Reported
-    ensures { λ r. ⌜ r ≡ reportCall (now (s .entry)) bidder ⌝ }
+    ensures { λ r. ⌜ Gives (reportCall (now (s .entry)) bidder) r ⌝ }
 {
     let n = numbers::report_number(s, bidder);
     if n != 0 {
@@ -101,7 +101,7 @@ pub fn report(s: &[u8], bidder: u8) -> Reported
 
 // Give the result: 1, 2, 16.
 pub fn result(s: &[u8]) -> Awarded
-    ensures { λ r. ⌜ r ≡ resultCall (now (s .entry)) ⌝ }
+    ensures { λ r. ⌜ Gives (resultCall (now (s .entry))) r ⌝ }
 {
     let n = numbers::result_number(s);
     if n != 0 {
@@ -112,7 +112,7 @@ pub fn result(s: &[u8]) -> Awarded
 
 // Return the box: 1; any state of the right length is left all zero, as first issued.
 pub fn return_box(s: &mut [u8]) -> Answer
-    ensures { λ r. ⌜ (r ≡ returnCall (now (s .entry)) .answer) × (now (s .exit) ≡ returnCall (now (s .entry)) .bytes) ⌝ }
+    ensures { λ r. ⌜ Leaves (returnCall (now (s .entry))) r (now (s .exit)) ⌝ }
 {
     let long = s.len();
     if long != 3333 {
@@ -124,21 +124,21 @@ pub fn return_box(s: &mut [u8]) -> Answer
 
 // Apart from any auction, read a card to a bid: 29, 4, 5.
 pub fn read(card: &[u8], products: usize) -> CardRead
-    ensures { λ r. ⌜ r ≡ readCall (now (card .entry)) products ⌝ }
+    ensures { λ r. ⌜ Gives (readCall (now (card .entry)) products) r ⌝ }
 {
     card::read(card, products)
 }
 
 // Apart from any auction, write a bid as a card: 29, 4, 30.
 pub fn write(room: &mut [u8], products: usize, bidder: u8, round: u16, lines: [Line; 8]) -> Answer
-    ensures { λ r. ⌜ (r ≡ writeCall (now (room .entry)) products bidder round lines .answer) × (now (room .exit) ≡ writeCall (now (room .entry)) products bidder round lines .bytes) ⌝ }
+    ensures { λ r. ⌜ Leaves (writeCall (now (room .entry)) products bidder round lines) r (now (room .exit)) ⌝ }
 {
     card::write(room, products, bidder, round, lines)
 }
 
 // Apart from any auction, suggest a volume: 31.
 pub fn suggested_volume(bid: u32, ratio: u32) -> Volume
-    ensures { λ r. ⌜ r ≡ suggestedCall bid ratio ⌝ }
+    ensures { λ r. ⌜ Gives (suggestedCall bid ratio) r ⌝ }
 {
     cutback::suggested_volume(bid, ratio)
 }

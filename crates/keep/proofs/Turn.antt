@@ -1,6 +1,6 @@
 -- The loop of step 2: what is left gives the same answer after every tranche kept. Assumes nothing.
 use mathlib.Core.Path.{_≡_, refl, sym, _∙_, ap}
-use mathlib.Core.Bool.{Bool, _&&_}
+use mathlib.Core.Bool.{Bool, true, false, _&&_, cond}
 use mathlib.Core.List.{List}
 use Prim.Native.Nat.{ℕ, zero, suc, _+_, _≤_, _<_}
 use native.Mathlib.Omega.{arith}
@@ -14,7 +14,7 @@ use Rattle.rules.specs.Count.{pickIf, better, firstUpTo, never}
 use Rattle.rules.specs.Settings.{targetOf}
 use Rattle.rules.specs.Held.{standing, below}
 use Rattle.rules.specs.Accept.{column, every, heldOf, leftOf}
-use Rattle.rules.specs.Keep.{keepMover, keepBy, short, keepStep, kept, whileShort, keepLoop, keptAll}
+use Rattle.rules.specs.Keep.{short, keepStep, canKeep, kept, whileShort, keepLoop, keptAll}
 use Rattle.rules.specs.Round.{drawn}
 use Rattle.rules.proofs.Sums.{best-found}
 use Rattle.search.specs.declared.Next.{Next}
@@ -41,44 +41,41 @@ module _ (m n : ℕ) (target : ℕ → ℕ) (tick : ℕ → Bool) (draw : ℕ �
   pub loop-none : (f c : ℕ) → firstUpTo (short n target tick ps) m ≡ Nobody → keepLoop m n target tick draw f ps c ≡ kept ps c
   unfolding keepLoop
   loop-none zero c e = refl
-  loop-none (suc f) c e = ap (λ q. whileShort q (λ p. keepLoop m n target tick draw f (keepStep m n draw ps p) (c + 1))
-      (kept ps c)) e
+  loop-none (suc f) c e = rw e
 
-  pub loop-step : (f c p : ℕ) → firstUpTo (short n target tick ps) m ≡ At p
+  pub loop-step : (f c p : ℕ) → firstUpTo (short n target tick ps) m ≡ At p → canKeep n draw ps p ≡ true
       → keepLoop m n target tick draw (suc f) ps c ≡ keepLoop m n target tick draw f (keepStep m n draw ps p) (c + 1)
   unfolding keepLoop
-  loop-step f c p e = ap (λ q. whileShort q (λ p. keepLoop m n target tick draw f (keepStep m n draw ps p) (c + 1)) (kept ps c)) e
+  loop-step f c p e k = rw (e, k)
 
+  -- with no steps left, or nothing left to keep on the short product
   pub loop-out : (f c : ℕ) → f ≤ 0 → keepLoop m n target tick draw f ps c ≡ kept ps c
   unfolding keepLoop
   loop-out zero c l = refl
   loop-out (suc f) c l = absurd (let z : ⊥ = omega arith in z)
 
-  -- where nothing is left to keep on the short product, every turn that is left finds the same
-  pub loop-idle : (f c p : ℕ) → firstUpTo (short n target tick ps) m ≡ At p → keepStep m n draw ps p ≡ ps
-      → keepLoop m n target tick draw f ps c ≡ kept ps (c + f)
-  loop-idle zero c p e s = loop-out zero c (omega arith) ∙ ap (kept ps) (let z : c ≡ c + 0 = omega arith in z)
-  loop-idle (suc f) c p e s =
-      loop-step f c p e ∙ ap (λ x. keepLoop m n target tick draw f x (c + 1)) s ∙ loop-idle f (c + 1) p e s
-      ∙ ap (kept ps) (let z : c + 1 + f ≡ c + suc f = omega arith in z)
+  pub loop-idle : (f c p : ℕ) → firstUpTo (short n target tick ps) m ≡ At p → canKeep n draw ps p ≡ false
+      → keepLoop m n target tick draw f ps c ≡ kept ps c
+  unfolding keepLoop
+  loop-idle zero c p e k = refl
+  loop-idle (suc f) c p e k = rw (e, k)
 
 -- the same targets give the same
 module _ (m n : ℕ) (f g : ℕ → ℕ) (tick : ℕ → Bool) (draw : ℕ → ℕ) (same : (p : ℕ) → p < m → f p ≡ g p) where
   ext-by : (k : ℕ) (ps : List Place) (c : ℕ) (q : Pick)
       → ((qs : List Place) (d : ℕ) → keepLoop m n f tick draw k qs d ≡ keepLoop m n g tick draw k qs d)
-      → whileShort q (λ p. keepLoop m n f tick draw k (keepStep m n draw ps p) (c + 1)) (kept ps c)
-      ≡ whileShort q (λ p. keepLoop m n g tick draw k (keepStep m n draw ps p) (c + 1)) (kept ps c)
-  ext-by k ps c (At p) h = h (keepStep m n draw ps p) (c + 1)
+      → whileShort q (λ p. cond (canKeep n draw ps p) (keepLoop m n f tick draw k (keepStep m n draw ps p) (c + 1)) (kept ps c)) (kept ps c)
+      ≡ whileShort q (λ p. cond (canKeep n draw ps p) (keepLoop m n g tick draw k (keepStep m n draw ps p) (c + 1)) (kept ps c)) (kept ps c)
+  ext-by k ps c (At p) h = rw (h (keepStep m n draw ps p) (c + 1))
   ext-by k ps c Nobody h = refl
 
   pub loop-ext : (k : ℕ) (ps : List Place) (c : ℕ) → keepLoop m n f tick draw k ps c ≡ keepLoop m n g tick draw k ps c
   unfolding keepLoop
   loop-ext zero ps c = refl
   loop-ext (suc k) ps c =
-      ap (λ q. whileShort q (λ p. keepLoop m n f tick draw k (keepStep m n draw ps p) (c + 1)) (kept ps c))
-      (first-ext (short n f tick ps) (short n g tick ps) m (λ p l. ap (λ t. tick p && below (standing (column heldOf ps p n) t))
-      (same p l)))
-      ∙ ext-by k ps c (firstUpTo (short n g tick ps) m) (loop-ext k)
+      rw (first-ext (short n f tick ps) (short n g tick ps) m
+      (λ p l. ap (λ t. tick p && below (standing (column heldOf ps p n) t)) (same p l)))
+      (ext-by k ps c (firstUpTo (short n g tick ps) m) (loop-ext k))
 
 -- ---- one turn of the code
 
@@ -157,12 +154,10 @@ module _ (w : Loop) where
 
   pub turn-idle : (p : ℕ) → firstShort ≡ At p → (s : Next) → s ≡ nextUpTo (w .turns) (drawn (w .order)) p (w .n) → s .turn ≡
       4294967297
-      → kept (w .ps) (w .count + w .fuel) ≡ whole
+      → kept (w .ps) (w .count) ≡ whole
   turn-idle p e s f z =
       let d = w .draw in
       let i = next-nothing (w .ps) (w .turns) (w .turn .numbers .timed) (drawn (w .order)) (w .n) p (d .few) (turn-product p e)
       (d .range) s f z in
-      let k : keepStep (w .m) (w .n) (drawn (w .order)) (w .ps) p ≡ w .ps =
-      ap (λ q. keepBy (w .m) (w .n) (drawn (w .order)) q (w .ps) p) (i .0)
-      ∙ ap (λ q. keepMover (w .m) (drawn (w .order)) q (w .ps) p) (i .1) in
-      sym (loop-idle (w .m) (w .n) aim (isOne (w .ticks)) (drawn (w .order)) (w .ps) (w .fuel) (w .count) p e k) ∙ w .turn .same
+      sym (loop-idle (w .m) (w .n) aim (isOne (w .ticks)) (drawn (w .order)) (w .ps) (w .fuel) (w .count) p e (rw (i .0, i .1)))
+      ∙ w .turn .same

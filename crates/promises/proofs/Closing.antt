@@ -29,13 +29,13 @@ use Rattle.rules.proofs.Storing.{loaded-long}
 use Rattle.rules.proofs.Bids.{bids-accepted}
 use Rattle.rules.proofs.Calling.{granted}
 use Rattle.rules.proofs.Round.{round-closes}
-use Rattle.rules.proofs.Offers.{closed-within}
 use Rattle.rules.proofs.Cutback.{cut-only}
 use Rattle.rules.specs.Stands.{Stands}
 use Rattle.rules.specs.OneCall.{StandsIn}
 use Rattle.rules.proofs.OneCall.{stood, of-standing, open-stands, open-loaded, open-standing, file-refused, calculate-accepts, calculate-loaded, calculate-refused, cutback-accepts, cutback-refused}
 use Rattle.promises.specs.Runs.{Call, opens, files, counts, calculates, cuts, reports, results, reads, writes, suggests, after, run, openedBy, filledPart, Round, roundOf, Cutback, cutbacks, settingsAfter}
 use Rattle.promises.specs.Awards.{Closed, awardOn, paidFor}
+use Rattle.promises.proofs.Offers.{closed-within}
 use Rattle.promises.proofs.Steps.{Step, same, card, round, cut, step, some-none, after-stands, run-later, run-keeps, parts-later, opened-stands, opened-terms, opened-keeps, in-use}
 use Rattle.promises.specs.Demands.{ClosingBid}
 

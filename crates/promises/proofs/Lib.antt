@@ -1,7 +1,9 @@
 pub mod Steps
 pub mod Promised
+pub mod Offers
 pub mod Closing
 pub mod Offering
+pub mod Worked
 pub mod Falling
 pub mod Settling
 pub mod Useful

@@ -1,123 +1,223 @@
 -- Demand 3: "every awarded tranche had been offered by that bidder, by its card or under document 01's default or deeming rule, at no more
 -- than the price it is paid". Assumes nothing.
-use mathlib.Core.Path.{_≡_, refl, ap}
-use mathlib.Core.Logic.{inl, inr}
+use mathlib.Core.Path.{_≡_, refl, _∙_, ap}
 use mathlib.Core.List.{List, [], _∷_, _++_, append-nil, append-assoc}
-use Prim.Native.Nat.{ℕ, _<_}
+use Prim.Native.Nat.{ℕ, _+_, _≤_, _<_}
 use native.Mathlib.Omega.{arith}
-use lib.ListN.{length}
+use lib.ListN.{length, getD}
 use Rattle.rules.specs.declared.Settings.{Settings}
 use Rattle.rules.specs.declared.Terms.{Terms}
 use Rattle.rules.specs.declared.Auction.{Auction}
-use Rattle.rules.specs.Settings.{termsOf}
-use Rattle.rules.specs.Held.{nothing, goingIn, deniedIn, retainedIn, place}
+use Rattle.rules.specs.Count.{sumUpTo}
+use Rattle.rules.specs.Units.{tranches}
+use Rattle.rules.specs.Settings.{termsOf, initialOf}
+use Rattle.rules.specs.Held.{nothing, goingIn, deniedIn, retainedIn, eligibility, place}
+use Rattle.rules.specs.Bid.{bidIn, withdrawnIn as withdrawnOn, reduction, increase, recordOf, bidOn}
+use Rattle.rules.specs.Round.{calculated}
+use Rattle.rules.specs.Cutback.{revised, cutBack}
 use Rattle.rules.specs.Layout.{loaded}
 use Rattle.rules.specs.Calls.{opened, openNumber, withCard}
 use Rattle.rules.specs.Stands.{Stands, Long}
+use Rattle.rules.proofs.Sums.{sum-ext, sum-le, sum-six, sum-add, sum-zero}
 use Rattle.rules.proofs.Storing.{loaded-long}
 use Rattle.rules.proofs.Opening.{blank}
 use Rattle.rules.proofs.Bids.{bids-accepted}
-use Rattle.rules.proofs.Cutback.{cut-offers}
-use Rattle.rules.proofs.Offers.{Backed, round-offers, award-going, award-denied, award-retained}
+use Rattle.rules.proofs.Round.{round-terms, round-eligibility}
+use Rattle.rules.proofs.Cutback.{cut-only}
 use Rattle.rules.specs.OneCall.{StandsIn}
 use Rattle.rules.proofs.OneCall.{stood, open-stands, open-loaded}
 use Rattle.promises.specs.Runs.{Call, after, run, openedBy, Round, roundOf, rounds, Cutback}
-use Rattle.promises.specs.Offered.{InSome, InLast, BeforeLast, OfferedGoing, OfferedBefore, OfferedAtExit}
-use Rattle.promises.specs.Awards.{Closed}
-use Rattle.promises.proofs.Steps.{Step, same, card, round, cut, step, after-stands, opened-stands, in-use, bidding}
+use Rattle.promises.specs.Offered.{OnOffer, noOffer, offeredFrom, onOffer, inRounds, givenUp, withdrawnIn}
+use Rattle.promises.specs.Awards.{Closed, awardOn}
+use Rattle.promises.specs.Demands.{AwardOffered, AwardedOnce}
+use Rattle.promises.proofs.Steps.{Step, same, card, round, cut, step, after-stands, run-keeps, opened-stands, opened-terms, opened-keeps, in-use, bidding}
+use Rattle.promises.proofs.Offers.{Backed, round-backed, round-retained, cut-backed, closed-free, going-paid, denied-paid, retained-paid}
 use Rattle.promises.proofs.Closing.{award-is, paid-is}
-use Rattle.promises.specs.Demands.{AwardOffered}
 
--- ---- one round more
+-- ---- on one product
 
-module _ (P : Round → Type 0) where
-  -- it is the last
-  last-new : (rs : List Round) (r : Round) → P r → InLast P (rs ++ (r ∷ []))
-  last-new [] r h = h
-  last-new (q ∷ []) r h = h
-  last-new (q ∷ k ∷ rs) r h = last-new (k ∷ rs) r h
+offered-on : (o : OnOffer) (rs qs : List Round) (b p : ℕ) → offeredFrom o (rs ++ qs) b p ≡ offeredFrom (offeredFrom o rs b p) qs b p
+offered-on o [] qs b p = refl
+offered-on o (r ∷ rs) qs b p = offered-on _ rs qs b p
 
-  -- the last becomes one before the last
-  last-before : (rs : List Round) (r : Round) → InLast P rs → BeforeLast P (rs ++ (r ∷ []))
-  last-before [] r h = absurd h
-  last-before (q ∷ []) r h = inl h
-  last-before (q ∷ k ∷ rs) r h = inr (last-before (k ∷ rs) r h)
+-- of a bidder and a product in use
+abbrev BackedBy : OnOffer → Auction → ℕ → ℕ → Type 0
+BackedBy o a b p = b < a .terms .bidders → p < a .terms .products → Backed o a b p
 
-  -- those before stay before
-  before-more : (rs : List Round) (r : Round) → BeforeLast P rs → BeforeLast P (rs ++ (r ∷ []))
-  before-more [] r h = absurd h
-  before-more (q ∷ []) r h = absurd h
-  before-more (q ∷ k ∷ rs) r (inl h) = inl h
-  before-more (q ∷ k ∷ rs) r (inr h) = inr (before-more (k ∷ rs) r h)
+step-backed : {a z : Auction} {rs : List Round} {ks : List Cutback} → Stands a → Long a → Step a z rs ks → (o : OnOffer) (b p : ℕ)
+    → BackedBy o a b p → BackedBy (offeredFrom o rs b p) z b p
+unfolding withCard revised
+step-backed S L same o b p B = B
+step-backed S L (card c ls) o b p B = λ hb hp. let K = B hb hp in record {
+  going = K .going;
+  denied = K .denied;
+  retained = K .retained;
+  own = K .own;
+  price = K .price;
+  before = K .before;
+  exit = K .exit;
+}
+step-backed {a} S L (cut targets caps u m) o b p B = λ hb hp.
+    let t = cut-only a targets caps S u m .terms in
+    let n = ap (λ t. t .bidders) t in
+    let k = ap (λ t. t .products) t in
+    cut-backed a targets caps S u m b p (omega arith) (omega arith) o (B (omega arith) (omega arith))
+step-backed {a} S L (round draw u D) o b p B = λ hb hp.
+    let t = round-terms a draw S L u D (bids-accepted a S u) in
+    let n = ap (λ t. t .bidders) t in
+    let k = ap (λ t. t .products) t in
+    round-backed a draw S L u D (bids-accepted a S u) b p (omega arith) (omega arith) o (B (omega arith) (omega arith))
 
-  -- it is one of them, and those that were still are
-  some-new : (rs : List Round) (r : Round) → P r → InSome P (rs ++ (r ∷ []))
-  some-new [] r h = inl h
-  some-new (q ∷ rs) r h = inr (some-new rs r h)
-
-  some-more : (rs : List Round) (r : Round) → InSome P rs → InSome P (rs ++ (r ∷ []))
-  some-more [] r h = absurd h
-  some-more (q ∷ rs) r (inl h) = inl h
-  some-more (q ∷ rs) r (inr h) = inr (some-more rs r h)
-
--- ---- along a run
-
--- g was offered in the last of the rounds rs, d in one before it, r in one of them at its exit price
-abbrev BackedBy : List Round → Auction → Type 0
-BackedBy rs a = Backed (OfferedGoing rs) (OfferedBefore rs) (OfferedAtExit rs) a
-
-step-backed : {a z : Auction} {rs : List Round} {ks : List Cutback} → Stands a → Long a → Step a z rs ks → (past : List Round)
-    → BackedBy past a → BackedBy (past ++ rs) z
-unfolding withCard
-step-backed {a} S L same past B = rw append-nil B
-step-backed {a} S L (card b ls) past B = rw append-nil (record { going = B .going; denied = B .denied; retained = B .retained })
-step-backed {a} S L (cut targets caps o m) past B = rw append-nil (cut-offers a targets caps S o m _ _ _ B)
-step-backed {a} S L (round draw o D) past B =
-    let r : Round = record { auction = a; draw = draw } in
-    round-offers a draw S L o D (bids-accepted a S o)
-    (OfferedGoing past) (OfferedBefore past) (OfferedAtExit past)
-    (OfferedGoing (past ++ (r ∷ []))) (OfferedBefore (past ++ (r ∷ []))) (OfferedAtExit (past ++ (r ∷ []))) B
-    (λ b p hb hp. last-new _ past r (inl (refl, refl)))
-    (λ b p hb hp e h. last-new _ past r (inr (e, h, refl, refl)))
-    (λ b p c x. last-before _ past r)
-    (λ b p c x. before-more _ past r)
-    (λ b p hb hp h. some-new _ past r (h, refl, refl))
-    (λ b p c x. some-more _ past r)
-
-run-backed : (s : List ℕ) → StandsIn s → (cs : List Call) (past : List Round) → BackedBy past (loaded s)
-    → BackedBy (past ++ rounds s cs) (loaded (run s cs))
-run-backed s S [] past B = rw append-nil B
-run-backed s S (c ∷ cs) past B =
-    rw (← append-assoc past (roundOf s c) (rounds (after s c) cs))
-    (run-backed (after s c) (after-stands s S c) cs (past ++ roundOf s c) (step-backed (stood s S) (loaded-long s) (step s S c) past B))
+run-backed : (s : List ℕ) → StandsIn s → (cs : List Call) (o : OnOffer) (b p : ℕ) → BackedBy o (loaded s) b p
+    → BackedBy (offeredFrom o (rounds s cs) b p) (loaded (run s cs)) b p
+run-backed s S [] o b p B = B
+run-backed s S (c ∷ cs) o b p B =
+    rw (offered-on o (roundOf s c) (rounds (after s c) cs) b p)
+    (run-backed (after s c) (after-stands s S c) cs (offeredFrom o (roundOf s c) b p) b p
+    (step-backed (stood s S) (loaded-long s) (step s S c) o b p B))
 
 -- before round 1 nothing is held
-opened-backed : (t : Terms) → BackedBy [] (opened t)
+opened-backed : (t : Terms) (b p : ℕ) → Backed noOffer (opened t) b p
 unfolding opened
-opened-backed t = record {
-  going = λ b p hb hp h. absurd (let x = ap goingIn (blank nothing 256 (place b p)) in let z : ⊥ = omega arith in z);
-  denied = λ b p hb hp h. absurd (let x = ap deniedIn (blank nothing 256 (place b p)) in let z : ⊥ = omega arith in z);
-  retained = λ b p hb hp h. absurd (let x = ap retainedIn (blank nothing 256 (place b p)) in let z : ⊥ = omega arith in z);
-}
+opened-backed t b p =
+    let e = blank nothing 256 (place b p) in
+    let g = ap goingIn e in
+    let d = ap deniedIn e in
+    let r = ap retainedIn e in
+    record {
+      going = omega arith;
+      denied = omega arith;
+      retained = omega arith;
+      own = omega arith;
+      price = λ h. absurd (let z : ⊥ = omega arith in z);
+      before = λ h. absurd (let z : ⊥ = omega arith in z);
+      exit = λ h. absurd (let z : ⊥ = omega arith in z);
+    }
+
+-- ---- over all products
+
+rounds-on : (f : Round → ℕ) (rs qs : List Round) → inRounds f (rs ++ qs) ≡ inRounds f rs + inRounds f qs
+rounds-on f [] qs = omega arith
+rounds-on f (r ∷ rs) qs = let e = rounds-on f rs qs in omega arith
+
+-- what bidder b has and what it gave up are its initial eligibility; its retained withdrawals are of those withdrawn
+record Once (past : List Round) (a : Auction) (b : ℕ) : Type 0 where
+  whole : eligibility a b + inRounds (givenUp b) past ≡ initialOf (a .terms) b
+  retained : sumUpTo (λ p. retainedIn (recordOf a b p)) (a .terms .products) ≤ inRounds (withdrawnIn b) past
+  withdrawn : inRounds (withdrawnIn b) past ≤ inRounds (givenUp b) past
+
+step-once : {a z : Auction} {rs : List Round} {ks : List Cutback} → Stands a → Long a → Step a z rs ks → (past : List Round) (b : ℕ)
+    → b < a .terms .bidders → Once past a b → Once (past ++ rs) z b
+unfolding withCard revised
+step-once S L same past b hb O = rw append-nil O
+step-once S L (card c ls) past b hb O = rw append-nil (record { whole = O .whole; retained = O .retained; withdrawn = O .withdrawn })
+step-once {a} S L (cut targets caps u m) past b hb O =
+    let C = cut-only a targets caps S u m in
+    let z : Auction = cutBack a targets caps in
+    let i = ap (λ t. initialOf t b) (C .terms) in
+    let k = ap (λ t. sumUpTo (λ p. retainedIn (recordOf z b p)) (t .products)) (C .terms) in
+    let q = sum-ext (λ p. retainedIn (recordOf z b p)) (λ p. retainedIn (recordOf a b p)) (a .terms .products)
+    (λ p hp. C .retained b p (omega (arith, S .limits .bidders)) (omega (arith, S .limits .products))) in
+    rw append-nil (record { whole = omega (arith, O .whole, C .eligible b hb); retained = omega (arith, O .retained); withdrawn = O .withdrawn })
+step-once {a} S L (round draw u D) past b hb O =
+    let A = bids-accepted a S u in
+    let r : Round = record { auction = a; draw = draw } in
+    let z : Auction = calculated a draw .auction in
+    let m = a .terms .products in
+    let t = round-terms a draw S L u D A in
+    let i = ap (λ t. initialOf t b) t in
+    let k = ap (λ t. sumUpTo (λ p. retainedIn (recordOf z b p)) (t .products)) t in
+    let g = rounds-on (givenUp b) past (r ∷ []) in
+    let w = rounds-on (withdrawnIn b) past (r ∷ []) in
+    let e = round-eligibility a draw S L u D A b hb in
+    let x = sum-add (λ p. bidIn (bidOn a b p)) (λ p. deniedIn (recordOf a b p)) m in
+    let y = sum-add (λ p. goingIn (recordOf a b p)) (λ p. deniedIn (recordOf a b p)) m in
+    let v = sum-add (λ p. retainedIn (recordOf a b p)) (λ p. withdrawnOn (bidOn a b p)) m in
+    let q = sum-le (λ p. retainedIn (recordOf z b p)) (λ p. retainedIn (recordOf a b p) + withdrawnOn (bidOn a b p)) m
+    (λ p hp. round-retained a draw S L u D A b p hb hp) in
+    let h = sum-six (λ p. bidIn (bidOn a b p)) (λ p. reduction (recordOf a b p) (bidOn a b p)) (λ p. 0)
+    (λ p. goingIn (recordOf a b p)) (λ p. increase (recordOf a b p) (bidOn a b p)) (λ p. 0) m (λ p _. omega arith) in
+    record {
+      whole = omega (arith, O .whole, A b hb .eligible);
+      retained = omega (arith, O .retained);
+      withdrawn = omega (arith, O .withdrawn, A b hb .total, sum-zero m);
+    }
+
+run-once : (s : List ℕ) → StandsIn s → (cs : List Call) (past : List Round) (b : ℕ) → b < loaded s .terms .bidders
+    → Once past (loaded s) b → Once (past ++ rounds s cs) (loaded (run s cs)) b
+run-once s S [] past b hb O = rw append-nil O
+run-once s S (c ∷ cs) past b hb O =
+    rw (← append-assoc past (roundOf s c) (rounds (after s c) cs))
+    (run-once (after s c) (after-stands s S c) cs (past ++ roundOf s c) b
+    (let n = run-keeps s S (c ∷ []) .bidders in omega arith)
+    (step-once (stood s S) (loaded-long s) (step s S c) past b hb O))
+
+opened-bidder : (t : Terms) (b : ℕ) → b < t .bidders → b < opened t .terms .bidders
+unfolding opened
+opened-bidder t b h = h
+
+-- before round 1 nothing is held, and all of it is free
+opened-once : (t : Terms) (b : ℕ) → Once [] (opened t) b
+unfolding opened
+opened-once t b =
+    let w = sum-ext (λ p. goingIn (recordOf (opened t) b p) + deniedIn (recordOf (opened t) b p)) (λ p. 0) (t .products) (λ p _.
+    let e = blank nothing 256 (place b p) in
+    let g = ap goingIn e in
+    let d = ap deniedIn e in
+    omega arith) in
+    let r = sum-ext (λ p. retainedIn (recordOf (opened t) b p)) (λ p. 0) (t .products) (λ p _. ap retainedIn (blank nothing 256 (place b p))) in
+    record { whole = omega (arith, sum-zero (t .products)); retained = omega (arith, sum-zero (t .products)); withdrawn = omega arith }
 
 -- ---- from an opening
 
-awards-offered : (s : List ℕ) (S : StandsIn s) (rs : List Round) → BackedBy rs (loaded s) → Closed s
-    → (b p : ℕ) → b < loaded s .terms .bidders → p < loaded s .terms .products → AwardOffered rs s b p
-awards-offered s S rs B c b p hb hp =
-    let e = paid-is s S c p hp in
-    record {
-      parts = award-is s S c b p hb hp;
-      going = rw e (award-going (loaded s) (stood s S) c _ _ _ B b p hb hp);
-      denied = rw e (award-denied (loaded s) (stood s S) c _ _ _ B b p hb hp);
-      retained = rw e (award-retained (loaded s) (stood s S) c _ _ _ B b p hb hp);
-    }
-
 module _ (s : List ℕ) (x : Settings) (new : openNumber s x ≡ 0) (e : length (x .eligibility) ≡ 32) (r : length (x .row) ≡ 8)
-    (cs : List Call) where
+    (cs : List Call) (c : Closed (run (openedBy s x) cs)) where
+  abbrev end : List ℕ
+  end = run (openedBy s x) cs
+
+  abbrev rs : List Round
+  rs = rounds (openedBy s x) cs
+
+  stands : StandsIn end
+  stands = opened-stands s x new e r cs
+
   -- "every awarded tranche had been offered by that bidder, .. at no more than the price it is paid"
-  pub every-award-offered : Closed (run (openedBy s x) cs) → (b p : ℕ) → b < termsOf x .bidders → p < termsOf x .products
+  pub every-award-offered : (b p : ℕ) → b < termsOf x .bidders → p < termsOf x .products
       → AwardOffered (rounds (openedBy s x) cs) (run (openedBy s x) cs) b p
-  every-award-offered c b p hb hp =
-      let B = run-backed (openedBy s x) (open-stands s x new e r) cs [] (rw (open-loaded s x new e r) (opened-backed (termsOf x))) in
-      awards-offered _ (opened-stands s x new e r cs) (rounds (openedBy s x) cs) B c b p (bidding s x new e r cs b hb) (in-use s x new e r cs p hp)
+  every-award-offered b p hb hp =
+      let nb = bidding s x new e r cs b hb in
+      let np = in-use s x new e r cs p hp in
+      let K = run-backed (openedBy s x) (open-stands s x new e r) cs noOffer b p
+      (rw (open-loaded s x new e r) (λ _ _. opened-backed (termsOf x) b p)) nb np in
+      let q = paid-is end stands c p np in
+      let S = stood end stands in
+      record {
+        parts = award-is end stands c b p nb np;
+        going = K .going;
+        denied = K .denied;
+        retained = K .retained;
+        own = K .own;
+        going-paid = rw q (going-paid (loaded end) S c b p nb np _ K);
+        denied-paid = rw q (denied-paid (loaded end) S c b p nb np _ K);
+        retained-paid = rw q (retained-paid (loaded end) S c b p nb np _ K);
+      }
+
+  -- so that no more are awarded on a product than were ever offered there
+  pub within-offers : (b p : ℕ) → b < termsOf x .bidders → p < termsOf x .products
+      → awardOn (run (openedBy s x) cs) b p ≤ onOffer (rounds (openedBy s x) cs) b p .ever
+  within-offers b p hb hp = omega (arith, every-award-offered b p hb hp)
+
+  -- over all products, each tranche of a bidder's initial eligibility is awarded once or given up once
+  pub awarded-once : (b : ℕ) → b < termsOf x .bidders → AwardedOnce (termsOf x) (rounds (openedBy s x) cs) (run (openedBy s x) cs) b
+  awarded-once b hb =
+      let nb = bidding s x new e r cs b hb in
+      let t = opened-terms s x new e r cs in
+      let k = opened-keeps s x new e r cs in
+      let O = run-once (openedBy s x) (open-stands s x new e r) cs [] b (rw (open-loaded s x new e r) (opened-bidder (termsOf x) b hb))
+      (rw (open-loaded s x new e r) (opened-once (termsOf x) b)) in
+      let m = ap (λ t. t .products) t ∙ k .products in
+      let i = ap (λ t. initialOf t b) t ∙ ap (λ l. getD l b (tranches 0) .0) (k .eligibility) in
+      let p = ap (λ m. sumUpTo (λ p. goingIn (recordOf (loaded end) b p) + deniedIn (recordOf (loaded end) b p)) m) m in
+      let q = ap (λ m. sumUpTo (λ p. retainedIn (recordOf (loaded end) b p)) m) m in
+      let f = closed-free (loaded end) (stood end stands) c b nb in
+      record { whole = omega (arith, O .whole); retained = omega (arith, O .retained); withdrawn = O .withdrawn }

@@ -6,6 +6,7 @@ use Prim.Native.Nat.{ℕ, zero, suc}
 use lib.Dec.{eqb}
 use Rattle.rules.specs.declared.Tranches.{Tranches}
 use Rattle.rules.specs.declared.Line.{Line}
+use Rattle.rules.specs.declared.CardRead.{CardRead}
 use Rattle.rules.specs.declared.Settings.{Settings}
 use Rattle.rules.specs.declared.Calculated.{Calculated}
 use Rattle.rules.specs.declared.Calculation.the-variants as calculation
@@ -13,15 +14,16 @@ use Rattle.rules.specs.declared.Count.the-variants as count
 use Rattle.rules.specs.declared.Reported.{Reported}
 use Rattle.rules.specs.declared.Awarded.{Awarded}
 use Rattle.rules.specs.declared.Volume.the-variants as volume
-use Rattle.rules.specs.Answers.{said, outcome, answerFrom, answerOf, countSaid, calculationSaid, reportSaid, awardSaid, volumeSaid, phaseNumber, phaseOf}
+use Rattle.rules.specs.Answers.{said, outcome, answerFrom, answerOf, cardSaid, countSaid, calculationSaid, reportSaid, awardSaid, volumeSaid, phaseNumber, phaseOf}
 use Rattle.rules.specs.Held.{freeOf, excess}
 use Rattle.rules.specs.Report.{rangeOf, reportOn, reportRefused, resultOf, resultRefused}
 use Rattle.rules.specs.Round.{calculated}
 use Rattle.rules.specs.Cutback.{suggestedVolume, suggestedNumber}
 use Rattle.rules.specs.Layout.{loaded}
-use Rattle.rules.specs.Card.{writeNumber, writeCard}
-use Rattle.rules.specs.Calls.{openNumber, openCall, fileNumber, fileCall, countNumber, countCall, toFile, calculationDone, calculateNumber, calculateCall, cutbackNumber, cutbackCall, reportNumber, reportCall, resultNumber, resultCall, returnNumber, returnCall, writeCall, suggestedCall}
-use lib.ListN.{length}
+use Rattle.rules.specs.Bits.{fieldAt}
+use Rattle.rules.specs.Card.{noLine, cardLength, countFits, filled, readLines, readRefused, bidOf, readNumber, readCard, writeNumber, writeCard}
+use Rattle.rules.specs.Calls.{openNumber, openCall, fileNumber, fileCall, countNumber, countCall, toFile, calculationDone, calculateNumber, calculateCall, cutbackNumber, cutbackCall, reportNumber, reportCall, resultNumber, resultCall, returnNumber, returnCall, readCall, writeCall, suggestedCall}
+use lib.ListN.{length, replicate}
 
 -- a number said with nothing beside it
 number-said : (n : ℕ) → answerOf (answerFrom n) ≡ said n []
@@ -50,6 +52,24 @@ pub write-said : (room : List ℕ) (n b r : ℕ) (ls : List Line)
     → answerOf (writeCall room n b r ls .answer) ≡ said (writeNumber (length room) n b r ls) []
 unfolding writeCard
 write-said room n b r ls = number-said (writeNumber (length room) n b r ls)
+
+-- read says the bidder and the round, and the lines stand beside it; or its number with all lines zero
+read-by : (c l f : Bool) (bid : CardRead)
+    → (cardSaid (cond c (cond l (cond f bid (readRefused 5)) (readRefused 4)) (readRefused 29) .card)
+    ≡ cond (eqb (cond c (cond l (cond f 0 5) 4) 29) 0) (cardSaid (bid .card)) (said (cond c (cond l (cond f 0 5) 4) 29) []))
+    × (cond c (cond l (cond f bid (readRefused 5)) (readRefused 4)) (readRefused 29) .lines
+    ≡ cond (eqb (cond c (cond l (cond f 0 5) 4) 29) 0) (bid .lines) (replicate 8 noLine))
+read-by true true true bid = (refl, refl)
+read-by true true false bid = (refl, refl)
+read-by true false f bid = (refl, refl)
+read-by false l f bid = (refl, refl)
+
+pub read-said : (s : List ℕ) (n : ℕ)
+    → (cardSaid (readCall s n .card)
+    ≡ cond (eqb (readNumber s n) 0) (said 0 (fieldAt s 0 5 ∷ fieldAt s 5 12 ∷ [])) (said (readNumber s n) []))
+    × (readCall s n .lines ≡ cond (eqb (readNumber s n) 0) (readLines s n) (replicate 8 noLine))
+unfolding readCard
+read-said s n = read-by (countFits n) (eqb (length s) (cardLength n)) (filled s n) (bidOf s n)
 
 -- count says how many are still to file
 count-by : (t : Bool) (n m : ℕ) → countSaid (cond t (count.ToFile m) (count.Refused n)) ≡ cond t (said 0 (m ∷ [])) (said n [])

@@ -18,7 +18,7 @@ use Rattle.rules.specs.declared.Reported.{Reported}
 use Rattle.rules.specs.declared.Awarded.{Awarded}
 use Rattle.rules.specs.declared.CardRead.{CardRead}
 use Rattle.rules.specs.declared.Volume.{Volume}
-use Rattle.rules.specs.Answers.{Outcome, outcome, said, calculationSaid}
+use Rattle.rules.specs.Answers.{Leaves, Gives, outcome, said, calculationSaid}
 use Rattle.rules.specs.Held.{ticked}
 use Rattle.rules.specs.Round.{calculated}
 use Rattle.rules.specs.Layout.{loaded}
@@ -28,53 +28,48 @@ use Rattle.rules.proofs.Bids.{bids-accepted}
 use Rattle.rules.specs.Counted.{keptWhereTicked, CountsOutbid}
 use Rattle.rules.proofs.Round.{round-kept, round-outbid}
 use Rattle.rules.specs.OneCall.{StandsIn}
-use Rattle.rules.proofs.OneCall.{stood, calculate-accepts, calculate-loaded}
-use Rattle.promises.specs.Demands.{Leaves}
+use Rattle.rules.proofs.OneCall.{leaves-one, gives-one, stood, calculate-accepts, calculate-loaded}
 
 -- ---- one outcome
 
--- "any two outcomes satisfying a contract coincide"
-leaves-one : {A : Type 0} (d o k : Outcome A) → Leaves d o → Leaves d k → o ≡ k
-leaves-one d o k O K = λ i. record { answer = (O .answer ∙ sym (K .answer)) i; bytes = (O .bytes ∙ sym (K .bytes)) i }
-
-answers-one : {A : Type 0} (d o k : A) → o ≡ d → k ≡ d → o ≡ k
-answers-one d o k p q = p ∙ sym q
-
--- each call's definition settles its answer and the final bytes it was lent, on refusal too
-pub unique-open : (s : List ℕ) (x : Settings) (o k : Outcome Answer) → Leaves (openCall s x) o → Leaves (openCall s x) k → o ≡ k
+-- "any two outcomes satisfying a contract coincide": the contracts of `console` say `Leaves` and `Gives` of these definitions, for every input,
+-- on refusal too
+pub unique-open : (s : List ℕ) (x : Settings) (o k : Answer) (t u : List ℕ)
+    → Leaves (openCall s x) o t → Leaves (openCall s x) k u → (o ≡ k) × (t ≡ u)
 unique-open s x = leaves-one (openCall s x)
 
-pub unique-file : (s c : List ℕ) (o k : Outcome Answer) → Leaves (fileCall s c) o → Leaves (fileCall s c) k → o ≡ k
+pub unique-file : (s c : List ℕ) (o k : Answer) (t u : List ℕ) → Leaves (fileCall s c) o t → Leaves (fileCall s c) k u → (o ≡ k) × (t ≡ u)
 unique-file s c = leaves-one (fileCall s c)
 
-pub unique-count : (s : List ℕ) (o k : Count) → o ≡ countCall s → k ≡ countCall s → o ≡ k
-unique-count s = answers-one (countCall s)
+pub unique-count : (s : List ℕ) (o k : Count) → Gives (countCall s) o → Gives (countCall s) k → o ≡ k
+unique-count s = gives-one (countCall s)
 
-pub unique-calculate : (s draw : List ℕ) (o k : Outcome Calculation) → Leaves (calculateCall s draw) o → Leaves (calculateCall s draw) k → o ≡ k
+pub unique-calculate : (s draw : List ℕ) (o k : Calculation) (t u : List ℕ)
+    → Leaves (calculateCall s draw) o t → Leaves (calculateCall s draw) k u → (o ≡ k) × (t ≡ u)
 unique-calculate s draw = leaves-one (calculateCall s draw)
 
-pub unique-cutback : (s : List ℕ) (targets caps : List Tranches) (o k : Outcome Answer)
-    → Leaves (cutbackCall s targets caps) o → Leaves (cutbackCall s targets caps) k → o ≡ k
+pub unique-cutback : (s : List ℕ) (targets caps : List Tranches) (o k : Answer) (t u : List ℕ)
+    → Leaves (cutbackCall s targets caps) o t → Leaves (cutbackCall s targets caps) k u → (o ≡ k) × (t ≡ u)
 unique-cutback s targets caps = leaves-one (cutbackCall s targets caps)
 
-pub unique-report : (s : List ℕ) (b : ℕ) (o k : Reported) → o ≡ reportCall s b → k ≡ reportCall s b → o ≡ k
-unique-report s b = answers-one (reportCall s b)
+pub unique-report : (s : List ℕ) (b : ℕ) (o k : Reported) → Gives (reportCall s b) o → Gives (reportCall s b) k → o ≡ k
+unique-report s b = gives-one (reportCall s b)
 
-pub unique-result : (s : List ℕ) (o k : Awarded) → o ≡ resultCall s → k ≡ resultCall s → o ≡ k
-unique-result s = answers-one (resultCall s)
+pub unique-result : (s : List ℕ) (o k : Awarded) → Gives (resultCall s) o → Gives (resultCall s) k → o ≡ k
+unique-result s = gives-one (resultCall s)
 
-pub unique-return : (s : List ℕ) (o k : Outcome Answer) → Leaves (returnCall s) o → Leaves (returnCall s) k → o ≡ k
+pub unique-return : (s : List ℕ) (o k : Answer) (t u : List ℕ) → Leaves (returnCall s) o t → Leaves (returnCall s) k u → (o ≡ k) × (t ≡ u)
 unique-return s = leaves-one (returnCall s)
 
-pub unique-read : (c : List ℕ) (n : ℕ) (o k : CardRead) → o ≡ readCall c n → k ≡ readCall c n → o ≡ k
-unique-read c n = answers-one (readCall c n)
+pub unique-read : (c : List ℕ) (n : ℕ) (o k : CardRead) → Gives (readCall c n) o → Gives (readCall c n) k → o ≡ k
+unique-read c n = gives-one (readCall c n)
 
-pub unique-write : (room : List ℕ) (n b r : ℕ) (ls : List Line) (o k : Outcome Answer)
-    → Leaves (writeCall room n b r ls) o → Leaves (writeCall room n b r ls) k → o ≡ k
+pub unique-write : (room : List ℕ) (n b r : ℕ) (ls : List Line) (o k : Answer) (t u : List ℕ)
+    → Leaves (writeCall room n b r ls) o t → Leaves (writeCall room n b r ls) k u → (o ≡ k) × (t ≡ u)
 unique-write room n b r ls = leaves-one (writeCall room n b r ls)
 
-pub unique-suggested : (bid ratio : ℕ) (o k : Volume) → o ≡ suggestedCall bid ratio → k ≡ suggestedCall bid ratio → o ≡ k
-unique-suggested bid ratio = answers-one (suggestedCall bid ratio)
+pub unique-suggested : (bid ratio : ℕ) (o k : Volume) → Gives (suggestedCall bid ratio) o → Gives (suggestedCall bid ratio) k → o ≡ k
+unique-suggested bid ratio = gives-one (suggestedCall bid ratio)
 
 -- ---- the two counts
 
@@ -110,10 +105,10 @@ module _ (s : List ℕ) (S : StandsIn s) (draw : List ℕ) (k o : ℕ) (d : calc
 
   -- "The second equals the kept tranches that stood before on the other products, less those deemed bid in step 3, less those still
   -- kept there."
-  pub outbid-count : CountsOutbid a draw z o
+  pub outbid-count : CountsOutbid a z o
   outbid-count =
       let A = accepted in
       let c = calculate-accepts s S draw (A .0) in
       rw (calculate-loaded s S draw (A .0))
-      (subst (λ n. CountsOutbid a draw (calculated a draw .auction) n) (A .2)
+      (subst (λ n. CountsOutbid a (calculated a draw .auction) n) (A .2)
       (round-outbid a draw (stood s S) (loaded-long s) (c .0) (c .1) (bids-accepted a (stood s S) (c .0))))

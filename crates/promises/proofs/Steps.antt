@@ -1,8 +1,8 @@
 -- What one call makes of a standing auction, and so a run of calls. Assumes nothing.
-use mathlib.Core.Path.{_≡_, refl, sym, _∙_, ap, subst}
+use mathlib.Core.Path.{_≡_, refl, sym, _∙_, ap}
 use mathlib.Core.Bool.{Bool, true, false, cond}
 use mathlib.Core.List.{List, [], _∷_, _++_}
-use Prim.Native.Nat.{ℕ, _≤_, _<_, min}
+use Prim.Native.Nat.{ℕ, _≤_, _<_}
 use native.Mathlib.Omega.{arith}
 use borrow.Author.Tests.{eqb-true, eqb-false}
 use lib.ListN.{length}
@@ -159,8 +159,9 @@ step-later {a} S L (round draw o D) _ =
     record {
       terms = e;
       filled = λ p h.
-          subst (λ t. filledPart a p ≤ min (held r (t .bidders) p) (targetOf t p)) (sym e)
-          (omega (arith, round-filled a draw S L o D A p (filledPart a p) h (omega arith) (omega arith)));
+          let n = ap (λ t. held r (t .bidders) p) e in
+          let t = ap (λ t. targetOf t p) e in
+          omega (arith, round-filled a draw S L o D A p (filledPart a p) h (omega arith) (omega arith));
       price = λ p h. round-prices a draw S L o D A p h .no-rise;
     }
 step-later {a} S L (cut targets caps o m) e = some-none (record { targets = targets; caps = caps }) [] e

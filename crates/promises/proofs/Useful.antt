@@ -15,17 +15,9 @@ use Rattle.rules.specs.declared.Product.{Product}
 use Rattle.rules.specs.declared.Unit.the-variants as unit
 use Rattle.rules.specs.declared.Auction.{Auction}
 use Rattle.rules.specs.declared.Outbid.{Outbid}
-use Rattle.rules.specs.declared.Answer.the-variants as answer
-use Rattle.rules.specs.declared.Calculation.the-variants as calculation
-use Rattle.rules.specs.declared.Count.the-variants as count
-use Rattle.rules.specs.declared.Report.the-variants as report
-use Rattle.rules.specs.declared.Phase.the-variants.{Closed as ClosedPhase}
-use Rattle.rules.specs.declared.Award.the-variants as award
-use Rattle.rules.specs.declared.Volume.the-variants as volume
-use Rattle.rules.specs.declared.Card.the-variants as card
 use Rattle.rules.specs.Count.{allUpTo, from}
 use Rattle.rules.specs.Units.{tranches, quote}
-use Rattle.rules.specs.Answers.{outcome, closed, stopped}
+use Rattle.rules.specs.Answers.{said, answerOf, cardSaid, countSaid, calculationSaid, reportSaid, awardSaid, volumeSaid, closed, stopped}
 use Rattle.rules.specs.Settings.{noProduct, row, noRow, settingsFit, termsOf, targetOf, capOf}
 use Rattle.rules.specs.Bits.{bitAt, fieldAt, setIn, setBit, putField}
 use Rattle.rules.specs.Card.{line, noLine, readLines, readCard, putLines, cardOf, writeNumber, writeCard}
@@ -35,7 +27,7 @@ use Rattle.rules.specs.Keep.{keepLoop}
 use Rattle.rules.specs.Outbid.{deemedUpTo, outbidLoop}
 use Rattle.rules.specs.Round.{afterStep2, afterStep4, atRest, onward, stops, settled, calculated}
 use Rattle.rules.specs.Cutback.{givenFor, revised}
-use Rattle.rules.specs.Report.{range, reportOn, resultOf}
+use Rattle.rules.specs.Report.{reportOn, resultOf}
 use Rattle.rules.specs.Layout.{stateLength, loaded, allZero}
 use Rattle.rules.specs.Standing.{isOpen}
 use Rattle.rules.specs.Calls.{opened, openNumber, openCall, ofState, cardNumber, withCard, afterCard, fileCall, openNumberOf, countCall, drawNumber, calculateNumber, calculateCall, cutNumber, cutbackNumber, cutbackCall, bidderNumber, reportCall, closedNumber, resultCall, returnCall, readCall, writeCall, suggestedCall}
@@ -143,11 +135,11 @@ box-says : (n : ℕ) (says : Auction → ℕ) → ofState openBox n says ≡ say
 box-says n says = of-standing openBox open-box n says ∙ ap says open-auction
 
 -- an opening, a card and a calculation, each accepted once and refused once
-pub open-answers : (openCall newBox settingS .answer ≡ answer.Done) × (openCall openBox settingS .answer ≡ answer.Refused 17)
+pub open-answers : (answerOf (openCall newBox settingS .answer) ≡ said 0 []) × (answerOf (openCall openBox settingS .answer) ≡ said 17 [])
 unfolding openCall
 open-answers = (rw new-opens, open-standing openBox settingS open-box .0)
 
-pub file-answers : (fileCall openBox cardOf0 .answer ≡ answer.Done) × (fileCall openBox [] .answer ≡ answer.Refused 4)
+pub file-answers : (answerOf (fileCall openBox cardOf0 .answer) ≡ said 0 []) × (answerOf (fileCall openBox [] .answer) ≡ said 4 [])
 unfolding fileCall settingS cardOf0 opened termsOf allUpTo from judged readCard readLines fieldAt bitAt
 file-answers = (rw (box-says 3 (cardNumber cardOf0)), rw (box-says 3 (cardNumber [])))
 
@@ -155,7 +147,8 @@ none-kept : (calculated (opened (termsOf settingS)) draw012 .kept ≡ 0) × (cal
 unfolding settingS draw012 opened termsOf allUpTo from calculated keepLoop deemedUpTo outbidLoop
 none-kept = (refl, refl)
 
-pub calculate-answers : (calculateCall openBox draw012 .answer ≡ calculation.Done 0 0) × (calculateCall openBox [] .answer ≡ calculation.Refused 14)
+pub calculate-answers : (calculationSaid (calculateCall openBox draw012 .answer) ≡ said 0 (0 ∷ 0 ∷ []))
+    × (calculationSaid (calculateCall openBox [] .answer) ≡ said 14 [])
 unfolding calculateCall settingS draw012 opened termsOf allUpTo from
 calculate-answers =
     (rw (box-says 3 (drawNumber draw012), open-auction, none-kept .0, none-kept .1), rw (box-says 3 (drawNumber [])))
@@ -173,34 +166,36 @@ pub closed-box : Closed closedBox
 unfolding settingS draw012 opened termsOf allUpTo from calculated keepLoop deemedUpTo outbidLoop
 closed-box = ap (λ a. a .phase) closed-auction
 
-pub count-answers : (countCall openBox ≡ count.ToFile 3) × (countCall [] ≡ count.Refused 1)
+pub count-answers : (countSaid (countCall openBox) ≡ said 0 (3 ∷ [])) × (countSaid (countCall []) ≡ said 1 [])
 unfolding countCall settingS opened termsOf ones
 count-answers = (rw (box-says 3 openNumberOf, open-auction), refl)
 
-pub report-answers : (reportCall closedBox 0 .report ≡ report.Given (tranches 0) ClosedPhase (range 0 20)) × (reportCall openBox 0 .report ≡ report.Refused 18)
+pub report-answers : (reportSaid (reportCall closedBox 0 .report) ≡ said 0 (0 ∷ closed ∷ 0 ∷ 20 ∷ []))
+    × (reportSaid (reportCall openBox 0 .report) ≡ said 18 [])
 unfolding reportCall reportOn settingS draw012 opened termsOf allUpTo from calculated keepLoop deemedUpTo outbidLoop
 report-answers =
     (rw (of-standing closedBox (calculate-stands openBox open-box draw012) 3 (bidderNumber 0), closed-auction), rw (box-says 3 (bidderNumber 0)))
 
-pub result-answers : (resultCall closedBox .award ≡ award.Given) × (resultCall openBox .award ≡ award.Refused 16)
+pub result-answers : (awardSaid (resultCall closedBox .award) ≡ said 0 []) × (awardSaid (resultCall openBox .award) ≡ said 16 [])
 unfolding resultCall resultOf opened
 result-answers =
     (rw (closed-gives closedBox (calculate-stands openBox open-box draw012) closed-box), rw (box-says 16 closedNumber))
 
-pub read-answers : (readCall cardOf0 2 .card ≡ card.Bid 0 1) × (readCall [] 2 .card ≡ card.Refused 4)
+pub read-answers : (cardSaid (readCall cardOf0 2 .card) ≡ said 0 (0 ∷ 1 ∷ [])) × (cardSaid (readCall [] 2 .card) ≡ said 4 [])
 unfolding cardOf0 readCard readLines fieldAt bitAt
 read-answers = (refl, refl)
 
-pub write-answers : (writeCall (replicate 12 0) 2 0 1 (line 2 0 0 0 ∷ replicate 7 noLine) ≡ outcome answer.Done cardOf0)
-    × (writeCall [] 2 0 1 (replicate 8 noLine) ≡ outcome (answer.Refused 4) [])
+pub write-answers : (answerOf (writeCall (replicate 12 0) 2 0 1 (line 2 0 0 0 ∷ replicate 7 noLine) .answer) ≡ said 0 [])
+    × (writeCall (replicate 12 0) 2 0 1 (line 2 0 0 0 ∷ replicate 7 noLine) .bytes ≡ cardOf0)
+    × (answerOf (writeCall [] 2 0 1 (replicate 8 noLine) .answer) ≡ said 4 [])
 unfolding cardOf0 writeCard writeNumber cardOf putLines putField setBit setIn allUpTo
-write-answers = (refl, refl)
+write-answers = (refl, refl, refl)
 
-pub return-answers : (returnCall openBox .answer ≡ answer.Done) × (returnCall [] .answer ≡ answer.Refused 1)
+pub return-answers : (answerOf (returnCall openBox .answer) ≡ said 0 []) × (answerOf (returnCall [] .answer) ≡ said 1 [])
 unfolding returnCall
 return-answers = (return-issued openBox (open-box .long) .0, refl)
 
-pub suggested-answers : (suggestedCall 72 150 ≡ volume.Suggested 48) × (suggestedCall 72 0 ≡ volume.Refused 31)
+pub suggested-answers : (volumeSaid (suggestedCall 72 150) ≡ said 0 (48 ∷ [])) × (volumeSaid (suggestedCall 72 0) ≡ said 31 [])
 unfolding suggestedCall
 suggested-answers = (refl, refl)
 
@@ -253,8 +248,8 @@ abbrev two : ℕ → ℕ → List Tranches
 two x y = tranches x ∷ tranches y ∷ replicate 6 (tranches 0)
 
 -- a reduced cap is accepted; a volume below the statewide cap is refused
-pub cutback-answers : (cutbackCall roundTwo (two 3 2) (two 1 2) .answer ≡ answer.Done)
-    × (cutbackCall roundTwo (two 2 2) (two 1 2) .answer ≡ answer.Refused 20)
+pub cutback-answers : (answerOf (cutbackCall roundTwo (two 3 2) (two 1 2) .answer) ≡ said 0 [])
+    × (answerOf (cutbackCall roundTwo (two 2 2) (two 1 2) .answer) ≡ said 20 [])
 unfolding cutbackCall settingS draw012 cardOf0 cardOf1 opened termsOf allUpTo from readCard readLines fieldAt bitAt withCard setIn calculated keepLoop deemedUpTo outbidLoop
 cutback-answers =
     let S = calculate-stands box2 stands2 draw012 in

@@ -1,19 +1,18 @@
--- What demand 3 says of a closed auction, and what a contract settles. Assumes nothing.
+-- What demands 1 and 3 say of settings, closing bids and awards. Assumes nothing.
 use mathlib.Core.Path.{_≡_}
 use mathlib.Core.Bool.{true}
 use mathlib.Core.List.{List, _∷_, _++_}
 use Prim.Native.Nat.{ℕ, _+_, _≤_, _<_}
 use Rattle.rules.specs.declared.Terms.{Terms}
 use Rattle.rules.specs.Count.{sumUpTo}
-use Rattle.rules.specs.Answers.{Outcome}
-use Rattle.rules.specs.Settings.{targetOf, capOf, startOf}
+use Rattle.rules.specs.Settings.{targetOf, capOf, startOf, initialOf}
 use Rattle.rules.specs.Held.{goingIn, deniedIn, retainedIn}
 use Rattle.rules.specs.Bid.{bidIn, recordOf, bidOn}
 use Rattle.rules.specs.Layout.{loaded}
 use Rattle.rules.specs.Standing.{isOpen}
 use Rattle.rules.specs.Calls.{calculateNumber}
 use Rattle.promises.specs.Runs.{Call, calculates, after, run, Round}
-use Rattle.promises.specs.Offered.{OfferedGoing, OfferedBefore, OfferedAtExit}
+use Rattle.promises.specs.Offered.{onOffer, inRounds, givenUp, withdrawnIn}
 use Rattle.promises.specs.Awards.{Closed, awardOn, paidFor}
 
 -- the settings u are t but for targets and caps, of which none is larger
@@ -42,18 +41,26 @@ pub record ClosingBid (s : List ℕ) (t : Terms) (cs : List Call) : Type 0 where
   pub asked : (b : ℕ) → b < t .bidders
       → sumUpTo (λ p. bidIn (bidOn (loaded (run s before)) b p)) (t .products) ≤ sumUpTo (λ p. awardOn (run s cs) b p) (t .products)
 
--- what bidder b is awarded of product p in the state s: its g, d and r, each offered in the rounds rs at no more than the price paid
+-- what bidder b is awarded of product p in the state s: each of its g, d and r has its own tranche that the bidder had offered in the rounds
+-- rs, at no more than the price paid
 pub record AwardOffered (rs : List Round) (s : List ℕ) (b p : ℕ) : Type 0 where
   pub parts : awardOn s b p
       ≡ goingIn (recordOf (loaded s) b p) + deniedIn (recordOf (loaded s) b p) + retainedIn (recordOf (loaded s) b p)
-  pub going : 0 < goingIn (recordOf (loaded s) b p)
-      → (c x : ℕ) × (goingIn (recordOf (loaded s) b p) ≤ c) × OfferedGoing rs b p c x × (x ≤ paidFor s p)
-  pub denied : 0 < deniedIn (recordOf (loaded s) b p)
-      → (c x : ℕ) × (deniedIn (recordOf (loaded s) b p) ≤ c) × OfferedBefore rs b p c x × (x ≤ paidFor s p)
-  pub retained : 0 < retainedIn (recordOf (loaded s) b p)
-      → (c x : ℕ) × (retainedIn (recordOf (loaded s) b p) ≤ c) × OfferedAtExit rs b p c x × (x ≤ paidFor s p)
+  -- the g are bid in the last round; the d and r were bid and are bid no longer, and the r of these were withdrawn, the d not
+  pub going : goingIn (recordOf (loaded s) b p) ≤ onOffer rs b p .bid
+  pub denied : deniedIn (recordOf (loaded s) b p) ≤ onOffer rs b p .switched
+  pub retained : retainedIn (recordOf (loaded s) b p) ≤ onOffer rs b p .withdrawn
+  -- none of these tranches is counted twice
+  pub own : onOffer rs b p .bid + onOffer rs b p .switched + onOffer rs b p .withdrawn ≤ onOffer rs b p .ever
+  -- "at no more than the price it is paid"
+  pub going-paid : 0 < goingIn (recordOf (loaded s) b p) → onOffer rs b p .price ≤ paidFor s p
+  pub denied-paid : 0 < deniedIn (recordOf (loaded s) b p) → onOffer rs b p .before ≤ paidFor s p
+  pub retained-paid : 0 < retainedIn (recordOf (loaded s) b p) → onOffer rs b p .exit ≤ paidFor s p
 
--- o is what a call lent bytes leaves, by its definition d: the answer, and every byte
-pub record Leaves {A : Type 0} (d o : Outcome A) : Type 0 where
-  pub answer : o .answer ≡ d .answer
-  pub bytes : o .bytes ≡ d .bytes
+-- over all products of the settings t: each tranche of bidder b's initial eligibility is awarded at the going price or as a denied switch, on one
+-- product, or was given up, in one of the rounds rs; those awarded as retained withdrawals are of the withdrawn, which are of those given up
+pub record AwardedOnce (t : Terms) (rs : List Round) (s : List ℕ) (b : ℕ) : Type 0 where
+  pub whole : sumUpTo (λ p. goingIn (recordOf (loaded s) b p) + deniedIn (recordOf (loaded s) b p)) (t .products) + inRounds (givenUp b) rs
+      ≡ initialOf t b
+  pub retained : sumUpTo (λ p. retainedIn (recordOf (loaded s) b p)) (t .products) ≤ inRounds (withdrawnIn b) rs
+  pub withdrawn : inRounds (withdrawnIn b) rs ≤ inRounds (givenUp b) rs

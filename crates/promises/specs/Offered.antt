@@ -1,62 +1,84 @@
--- What bidder b had offered of product p: how many tranches, at what price, in which round. Assumes nothing.
-use mathlib.Core.Path.{_≡_}
-use mathlib.Core.Bool.{Bool, true, false}
-use mathlib.Core.Logic.{_⊎_}
+-- What bidder b has on offer of product p, by its cards and under document 01's default and deeming rules: worked out from the rounds that
+-- were calculated, each by its cards and its draw, and not from what they led to. Assumes nothing.
+use mathlib.Core.Bool.{Bool, cond}
 use mathlib.Core.List.{List, [], _∷_}
-use Prim.Native.Nat.{ℕ, _+_, _*_, _<_}
-use Rattle.rules.specs.Held.{goingIn, deniedIn, ticked}
-use Rattle.rules.specs.Bid.{bidIn, withdrawnIn, exitOn, bidOn, priceAt}
+use Prim.Native.Nat.{ℕ, _+_, _*_, _-_, min}
+use lib.Dec.{ltb}
+use Rattle.rules.specs.Count.{sumUpTo}
+use Rattle.rules.specs.Held.{goingIn, deniedIn, ticked, freeOf}
+use Rattle.rules.specs.Bid.{bidIn, withdrawnIn as withdrawnOn, exitOn, recordOf, bidOn, priceAt}
 use Rattle.rules.specs.Accept.{placeAt, riseOf}
 use Rattle.rules.specs.Round.{afterStep2}
 use Rattle.promises.specs.Runs.{Round}
 
--- ---- in one round
+-- Each tranche on offer is counted in one of three numbers, and only there: those bid or deemed bid in the last round, at its going
+-- price; and of those that were bid and are bid no longer, the ones withdrawn, at their exit price, and the others, at the price at
+-- which they were last bid. `ever` counts those ever offered, each in the round in which it was newly bid.
+pub record OnOffer : Type 0 where
+  pub bid : ℕ
+  pub price : ℕ
+  pub switched : ℕ
+  pub before : ℕ
+  pub withdrawn : ℕ
+  pub exit : ℕ
+  pub ever : ℕ
 
--- by its card, or by the default bid where it filed none: its tranches at the going price
-abbrev pub ByBid : Round → ℕ → ℕ → ℕ → ℕ → Type 0
-ByBid r b p c x = (c ≡ bidIn (bidOn (r .auction) b p)) × (x ≡ priceAt (r .auction) p)
+abbrev pub noOffer : OnOffer
+noOffer = record { bid = 0; price = 0; switched = 0; before = 0; withdrawn = 0; exit = 0; ever = 0 }
 
--- by the deeming rule: on a product that didn't tick, with an increase left after step 2, its denied switches there join its
--- tranches at the going price
-abbrev pub ByDeeming : Round → ℕ → ℕ → ℕ → ℕ → Type 0
-ByDeeming r b p c x =
-    (ticked (r .auction) p ≡ false)
-    × (0 < riseOf (placeAt (afterStep2 (r .auction) (r .draw) .places) (b * 8 + p)))
-    × (c ≡ goingIn (placeAt (afterStep2 (r .auction) (r .draw) .places) (b * 8 + p) .holds)
-    + deniedIn (placeAt (afterStep2 (r .auction) (r .draw) .places) (b * 8 + p) .holds))
-    × (x ≡ priceAt (r .auction) p)
+module _ (r : Round) (b p : ℕ) where
+  -- the tranches of its card, or of its default bid; those that it withdraws
+  abbrev pub tranchesBid : ℕ
+  tranchesBid = bidIn (bidOn (r .auction) b p)
 
-abbrev pub AtGoingPrice : Round → ℕ → ℕ → ℕ → ℕ → Type 0
-AtGoingPrice r b p c x = ByBid r b p c x ⊎ ByDeeming r b p c x
+  abbrev pub tranchesWithdrawn : ℕ
+  tranchesWithdrawn = withdrawnOn (bidOn (r .auction) b p)
 
--- by its card, or by the default bid: its withdrawn tranches at their exit price
-abbrev pub AtExitPrice : Round → ℕ → ℕ → ℕ → ℕ → Type 0
-AtExitPrice r b p c x =
-    (0 < withdrawnIn (bidOn (r .auction) b p)) × (c ≡ withdrawnIn (bidOn (r .auction) b p)) × (x ≡ exitOn (bidOn (r .auction) b p))
+  -- an increase left after step 2
+  abbrev pub increaseLeft : Bool
+  increaseLeft = ltb 0 (riseOf (placeAt (afterStep2 (r .auction) (r .draw) .places) (b * 8 + p)))
 
--- ---- over the rounds of a run: in some round; in the last; in one before the last
+  -- "On a product that didn't tick, a bidder with denied switches there and an increase left is deemed to bid them all at the going price":
+  -- the denied switches, of those switched, are bid again
+  abbrev pub deemedBid : Bool → Bool → OnOffer → ℕ
+  deemedBid tick left o = cond tick 0 (cond left (min (deniedIn (recordOf (r .auction) b p)) (o .switched)) 0)
 
-abbrev pub InSome : (Round → Type 0) → List Round → Type 0
-InSome P [] = ⊥
-InSome P (r ∷ rs) = P r ⊎ InSome P rs
+  -- The round adds what it bids. On a product that ticked, what was bid and is bid no longer is withdrawn or switched, last bid at the going
+  -- price of the round before; on one that didn't, nothing can be reduced, and what was withdrawn or switched stays so unless deemed bid.
+  abbrev pub offeringBy : Bool → Bool → OnOffer → OnOffer
+  offeringBy tick left o = record {
+    bid = tranchesBid + deemedBid tick left o;
+    price = priceAt (r .auction) p;
+    switched = cond tick (o .bid - tranchesBid - tranchesWithdrawn) (cond left 0 (o .switched));
+    before = cond tick (o .price) (o .before);
+    withdrawn = cond tick tranchesWithdrawn (o .withdrawn);
+    exit = cond tick (exitOn (bidOn (r .auction) b p)) (o .exit);
+    ever = o .ever + (tranchesBid - o .bid);
+  }
 
-abbrev pub InLast : (Round → Type 0) → List Round → Type 0
-InLast P [] = ⊥
-InLast P (r ∷ []) = P r
-InLast P (r ∷ q ∷ rs) = InLast P (q ∷ rs)
+  abbrev pub offering : OnOffer → OnOffer
+  offering = offeringBy (ticked (r .auction) p) increaseLeft
 
-abbrev pub BeforeLast : (Round → Type 0) → List Round → Type 0
-BeforeLast P [] = ⊥
-BeforeLast P (r ∷ []) = ⊥
-BeforeLast P (r ∷ q ∷ rs) = P r ⊎ BeforeLast P (q ∷ rs)
+-- what is on offer after the rounds
+abbrev pub offeredFrom : OnOffer → List Round → ℕ → ℕ → OnOffer
+offeredFrom o [] b p = o
+offeredFrom o (r ∷ rs) b p = offeredFrom (offering r b p o) rs b p
 
--- tranches that stand at the going price were offered in the last round; denied switches in a round before it, at the going price
--- of that round; retained withdrawals at their exit price: so no offer is counted twice
-abbrev pub OfferedGoing : List Round → ℕ → ℕ → ℕ → ℕ → Type 0
-OfferedGoing rs b p c x = InLast (λ r. AtGoingPrice r b p c x) rs
+abbrev pub onOffer : List Round → ℕ → ℕ → OnOffer
+onOffer rs b p = offeredFrom noOffer rs b p
 
-abbrev pub OfferedBefore : List Round → ℕ → ℕ → ℕ → ℕ → Type 0
-OfferedBefore rs b p c x = BeforeLast (λ r. AtGoingPrice r b p c x) rs
+-- ---- over all products, in all rounds
 
-abbrev pub OfferedAtExit : List Round → ℕ → ℕ → ℕ → ℕ → Type 0
-OfferedAtExit rs b p c x = InSome (λ r. AtExitPrice r b p c x) rs
+abbrev pub inRounds : (Round → ℕ) → List Round → ℕ
+inRounds f [] = 0
+inRounds f (r ∷ rs) = f r + inRounds f rs
+
+-- what bidder b may bid in a round, its g and f, and does not: withdrawn, or free and not used
+abbrev pub givenUp : ℕ → Round → ℕ
+givenUp b r =
+    sumUpTo (λ p. goingIn (recordOf (r .auction) b p)) (r .auction .terms .products) + freeOf (r .auction) b
+    - sumUpTo (tranchesBid r b) (r .auction .terms .products)
+
+-- what it withdraws
+abbrev pub withdrawnIn : ℕ → Round → ℕ
+withdrawnIn b r = sumUpTo (tranchesWithdrawn r b) (r .auction .terms .products)

@@ -2,7 +2,7 @@
 use mathlib.Core.Path.{_≡_, refl, sym, _∙_, ap₂, subst}
 use mathlib.Core.Bool.{Bool, true, false, cond}
 use mathlib.Core.List.{List}
-use Prim.Native.Nat.{ℕ, _/_, _%_, _≤_, _<_}
+use Prim.Native.Nat.{ℕ, _-_, _/_, _%_, _≤_, _<_}
 use native.Mathlib.Omega.{arith}
 use native.Mathlib.Nat.{div-add-mod'}
 use borrow.Author.Tests.{eqb-true, ltb-true, ltb-false}
@@ -14,14 +14,20 @@ use Rattle.rules.specs.declared.Place.{Place}
 use Rattle.rules.specs.declared.Auction.{Auction}
 use Rattle.rules.specs.Count.{allUpTo, firstUpTo, isAt}
 use Rattle.rules.specs.Card.{noLine}
-use Rattle.rules.specs.Held.{goingIn, deniedIn, retainedIn, recordAt, place, ticked}
-use Rattle.rules.specs.Bid.{bidIn, withdrawnIn, recordOf, beforeAt, hasFiled, defaultLine, bidOn}
-use Rattle.rules.specs.Accept.{nowhere, placeAt, accepted, acceptedAll}
+use Rattle.rules.specs.Held.{entry, goingIn, deniedIn, retainedIn, exitIn, recordAt, place, ticked}
+use Rattle.rules.specs.Bid.{bidIn, withdrawnIn, exitOn, reduction, increase, recordOf, beforeAt, hasFiled, defaultLine, bidOn}
+use Rattle.rules.specs.Accept.{at, nowhere, placeAt, accepted, acceptedAll}
 use Rattle.rules.specs.Round.{drawn, drawFits}
 use Rattle.rules.proofs.Sums.{and-left, and-right}
 use Rattle.rules.proofs.Lists.{all-take, list-at, list-long}
 use Rattle.search.specs.Room.{Fits, Room, Drawn, isOne}
 use Rattle.round.specs.Ready.{Small, Ticks}
+
+-- a place whose switches and increases are the bid's
+pub accepted-with : (r : Record) (l : Line) (s i : ℕ) → s ≡ reduction r l - withdrawnIn l → i ≡ increase r l
+    → at (entry (bidIn l) (deniedIn r) (retainedIn r) (exitIn r)) (withdrawnIn l) (exitOn l) s i (l .priority) ≡ accepted r l
+accepted-with r l s i e f =
+    ap₂ (λ s i. at (entry (bidIn l) (deniedIn r) (retainedIn r) (exitIn r)) (withdrawnIn l) (exitOn l) s i (l .priority)) e f
 
 whole : (k : ℕ) → k ≡ place (k / 8) (k % 8)
 whole k = sym (div-add-mod' k 8)

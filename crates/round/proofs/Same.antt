@@ -42,10 +42,8 @@ module _ (tick other : ℕ → Bool) (same : (p : ℕ) → p < 8 → tick p ≡ 
     unfolding keepLoop
     keep-same zero ps c = refl
     keep-same (suc f) ps c =
-        ap (λ q. whileShort q (λ p. keepLoop m n target tick draw f (keepStep m n draw ps p) (c + 1)) (kept ps c)) (first-short ps)
-        ∙ while-short (firstUpTo (short n target other ps) m) (λ p. keepLoop m n target tick draw f (keepStep m n draw ps p) (c + 1))
-        (λ p. keepLoop m n target other draw f (keepStep m n draw ps p) (c + 1)) (kept ps c)
-        (λ p. keep-same f (keepStep m n draw ps p) (c + 1))
+        rw (first-short ps) (while-short (firstUpTo (short n target other ps) m) _ _ (kept ps c)
+        (λ p. rw (keep-same f (keepStep m n draw ps p) (c + 1))))
 
     first-over : (ps : List Place) → firstUpTo (over n target tick ps) m ≡ firstUpTo (over n target other ps) m
     first-over ps =

@@ -48,13 +48,14 @@ rest-is phase a o records none e f = ap₂ (resting phase a (o .free)) e f
 
 -- ---- step 5
 
-module _ (a : Auction) (o : Outbid) (rest : Auction) (e : rest ≡ atRest closed a o) where
+module _ (a : Auction) (o : Outbid) (phase : ℕ) (rest : Auction) (e : rest ≡ atRest phase a o) where
   pub rest-counts : Counts a → Counts rest
   rest-counts C = subst Counts (sym e) (record { products = C .products; bidders = C .bidders })
 
   pub rest-small : a .terms .rows ≤ 8 → a .round ≤ 4095 → (rest .terms .rows ≤ 8) × (rest .round ≤ 4095)
   rest-small h k = subst (λ r. (r .terms .rows ≤ 8) × (r .round ≤ 4095)) (sym e) (h, k)
 
+module _ (a : Auction) (o : Outbid) (rest : Auction) (e : rest ≡ atRest closed a o) where
   module _ (x : ℕ) (f : x ≡ excess rest) where
     pub settled-closed : x ≡ 0 → rest ≡ settled a o
     settled-closed z =

@@ -15,10 +15,10 @@ use Rattle.rules.specs.declared.Outbid.{Outbid}
 use Rattle.rules.specs.declared.Auction.{Auction}
 use Rattle.rules.specs.Count.{sumUpTo}
 use Rattle.rules.specs.Units.{tranches}
-use Rattle.rules.specs.Settings.{targetOf, capOf, initialOf}
-use Rattle.rules.specs.Held.{goingIn, deniedIn, retainedIn, exitIn, heldIn, keptIn, held, standing, above, ticked}
+use Rattle.rules.specs.Settings.{targetOf, capOf}
+use Rattle.rules.specs.Held.{goingIn, deniedIn, retainedIn, exitIn, heldIn, keptIn, held, standing, above, ticked, freeOf}
 use Rattle.rules.specs.Bid.{bidIn, withdrawnIn, reduction, increase, recordOf, priceAt, beforeAt, bidOn}
-use Rattle.rules.specs.Accept.{placeAt, acceptedAll, heldOf, keptOf, leftOf, movingOf, riseOf, column, rowOf, every}
+use Rattle.rules.specs.Accept.{placeAt, acceptedAll, heldOf, keptOf, movingOf, riseOf, column, rowOf, every}
 use Rattle.rules.specs.Outbid.{outbid, deemedUpTo}
 use Rattle.rules.specs.Round.{drawn, drawFits, afterStep2, afterStep4}
 use Rattle.rules.specs.Standing.{keptOn, isOpen}
@@ -53,7 +53,8 @@ pub record Booked (a : Auction) (o : Outbid) : Type 0 where
       → rowOf worthOf (o .places) b (a .terms .products) + freeAt (o .free) b
       ≡ sumUpTo (λ p. bidIn (bidOn a b p) + deniedIn (recordOf a b p)) (a .terms .products)
   pub eligible : (b : ℕ) → b < a .terms .bidders
-      → rowOf heldOf (o .places) b (a .terms .products) + freeAt (o .free) b ≤ initialOf (a .terms) b
+      → rowOf heldOf (o .places) b (a .terms .products) + freeAt (o .free) b
+      ≤ sumUpTo (λ p. heldIn (recordOf a b p)) (a .terms .products) + freeOf a b
   pub no-free : (b : ℕ) → a .terms .bidders ≤ b → b < 32 → freeAt (o .free) b ≡ 0
 
 -- one place through the steps: its record and bid, as accepted, after steps 2, 3 and 4
@@ -126,7 +127,7 @@ module _ (a : Auction) (draw : List ℕ) where
     -- after step 2
     pub kept-end : Ended (a .terms .products) (a .terms .bidders) (targetOf (a .terms)) (ticked a) (acceptedAll a) 0 (afterStep2 a draw)
     kept-end =
-        keep-ends m n goal (ticked a) (drawn draw) hm (draw-range n draw D) (draw-reach n draw D) (every leftOf l0 n) l0 0
+        keep-ends m n goal (ticked a) (drawn draw) hm (draw-range n draw D) (draw-reach n draw D) _ l0 0
         (keepable a S A) (omega arith)
 
     -- after step 3
@@ -268,8 +269,9 @@ module _ (a : Auction) (draw : List ℕ) where
         (λ p hp. omega (arith, trail b p hb hp)) in
         omega (arith, out-end .worth b, kept-end .owed b)
 
-    -- all that a bidder holds, with f, stays within its initial eligibility
-    booked-eligible : (b : ℕ) → b < n → rowOf heldOf l4 b m + freeAt (o .free) b ≤ initialOf (a .terms) b
+    -- all that a bidder holds, with f, never grows
+    booked-eligible : (b : ℕ) → b < n
+        → rowOf heldOf l4 b m + freeAt (o .free) b ≤ sumUpTo (λ p. heldIn (recordOf a b p)) m + freeOf a b
     booked-eligible b hb =
         let d : ℕ → Line = bidOn a b in
         let r : ℕ → Record = recordOf a b in
@@ -282,7 +284,7 @@ module _ (a : Auction) (draw : List ℕ) where
         let h5 = sum-add (λ p. goingIn (r p)) (λ p. deniedIn (r p)) m in
         let h6 = sum-six (λ p. bidIn (d p)) (λ p. reduction (r p) (d p)) (λ p. 0)
         (λ p. goingIn (r p)) (λ p. increase (r p) (d p)) (λ p. 0) m (λ p _. omega arith) in
-        omega (arith, booked-worth b hb, A b hb .total, S .eligible b hb)
+        omega (arith, booked-worth b hb, A b hb .total)
 
     -- past the bidders and products in use nothing is held, and past the bidders no f
     bare-at : (b p : ℕ) → b < 32 → p < 8 → (b < n → m ≤ p) → NoRecord (placeAt l4 (b * 8 + p) .holds)

@@ -1,44 +1,35 @@
 -- A cutback leaves a standing state standing, and moves what a reduced cap takes off into free eligibility. Assumes nothing.
-use mathlib.Core.Path.{_≡_, refl, sym, _∙_, ap, subst}
+use mathlib.Core.Path.{_≡_, refl, sym, _∙_, ap}
 use mathlib.Core.Bool.{Bool, true, false, cond}
 use mathlib.Core.Logic.{_⊎_, inl, inr}
 use mathlib.Core.List.{List}
-use Prim.Native.Nat.{ℕ, zero, suc, _+_, _*_, _-_, _/_, _%_, _^_, _≤_, _<_, min}
+use Prim.Native.Nat.{ℕ, _+_, _*_, _-_, _%_, _^_, _≤_, _<_, min}
 use native.Mathlib.Omega.{arith}
 use native.Mathlib.Nat.{zero-div}
-use borrow.Author.Tests.{eqb-true, eqb-false, eq-eqb, ne-eqb, ltb-true, ltb-false, lt-ltb, le-ltb, le-leb}
+use borrow.Author.Tests.{eqb-false, ne-eqb, ltb-true, ltb-false, lt-ltb, le-ltb}
 use lib.ListN.{length, getD}
 use lib.Dec.{eqb, ltb}
 use Rattle.rules.specs.declared.Tranches.{Tranches}
 use Rattle.rules.specs.declared.Record.{Record}
 use Rattle.rules.specs.declared.Terms.{Terms}
 use Rattle.rules.specs.declared.Auction.{Auction}
-use Rattle.rules.specs.Count.{sumUpTo, allUpTo, listOf}
+use Rattle.rules.specs.Count.{sumUpTo}
 use Rattle.rules.specs.Units.{tranches}
 use Rattle.rules.specs.Answers.{bidsOpen, stopped}
-use Rattle.rules.specs.Settings.{item, noItem, withinLimits, itemWithin, targetOf, capOf, startOf, initialOf}
+use Rattle.rules.specs.Settings.{item, noItem, withinLimits, itemWithin, targetOf, capOf, startOf}
 use Rattle.rules.specs.Held.{nothing, goingIn, deniedIn, retainedIn, exitIn, heldIn, keptIn, recordAt, setTo, held, aboveZero, standingOf, freeOf, eligibility, excess}
 use Rattle.rules.specs.Bid.{recordOf, priceAt, beforeAt, hasFiled}
 use Rattle.rules.specs.Round.{opensAt, stops}
-use Rattle.rules.specs.Cutback.{givenFor, numbersFit, mayCut, revised, cutFrom, reduced, settledAgain, cutBack}
-use Rattle.rules.specs.Standing.{keptOn, isOpen, recordZero, nothingKept, phaseStands}
+use Rattle.rules.specs.Cutback.{givenFor, numbersFit, mayCut, revised, cutFrom, reduced, cutBack}
+use Rattle.rules.specs.Standing.{isOpen, recordZero, phaseStands}
 use Rattle.rules.specs.Stands.{Limits, Long, Stands}
 use Rattle.rules.specs.OneCall.{CutOnly, CutPrice}
-use Rattle.rules.proofs.Sums.{sum-ext, sum-le, sum-six, sum-ge, sum-add, sum-zero}
+use Rattle.rules.proofs.Sums.{sum-ext, sum-le, sum-six, sum-ge, sum-add, sum-swap, sum-zero}
 use Rattle.rules.proofs.Lists.{clash, both, all-give, all-take, list-at, list-long}
 use Rattle.rules.proofs.Signed.{above-zero}
 use Rattle.rules.proofs.Tests.{told, shown}
-use Rattle.rules.proofs.Standing.{limits-take, second-none, later-excess, implied}
-use Rattle.rules.proofs.Offers.{Offers, Backed}
+use Rattle.rules.proofs.Standing.{limits-take, second-none, later-excess, later-open}
 use Rattle.rules.proofs.Prices.{Priced, nextPrices, nextBefores, next, next-none}
-
--- a sum of sums in either order
-sum-swap : (f : ℕ → ℕ → ℕ) (m n : ℕ) → sumUpTo (λ b. sumUpTo (λ p. f b p) m) n ≡ sumUpTo (λ p. sumUpTo (λ b. f b p) n) m
-sum-swap f m zero = sym (sum-zero m)
-sum-swap f m (suc n) =
-    let r = sum-swap f m n in
-    let s = sum-add (λ p. sumUpTo (λ b. f b p) n) (λ p. f n p) m in
-    omega arith
 
 -- ---- the revised settings, whatever the numbers
 
@@ -82,7 +73,7 @@ module _ (a : Auction) (targets caps : List Tranches) where
 
   free-is : (b : ℕ) → b < 32 → freeOf z b ≡ freeOf a b + cutFrom a caps b
   unfolding reduced
-  free-is b h = ap (λ f. f .0) (list-at (λ b. tranches (freeOf a b + cutFrom a caps b)) (tranches 0) 32 b h)
+  free-is b h = let x : freeOf z b ≡ _ = ap (λ f. f .0) (list-at _ (tranches 0) 32 b h) in omega arith
 
   price-is : (p : ℕ) → p < 8 → priceAt z p ≡ startOf (a .terms) p
   unfolding reduced
@@ -213,7 +204,7 @@ module _ (a : Auction) (targets caps : List Tranches) where
           above-zero (held (z .records) n p) (targetOf t p),
         )) in
         let y = sum-add (λ p. aboveZero (standingOf z p)) (λ p. sumUpTo (λ b. c b p) n) m in
-        let w = sum-swap c m n in
+        let w = sum-swap c n m in
         let f = sum-ext (freeOf z) (λ b. freeOf a b + cutFrom a caps b) n (λ b hb. free-is b (omega (arith, hn))) in
         let g = sum-add (freeOf a) (cutFrom a caps) n in
         omega arith
@@ -330,9 +321,7 @@ module _ (a : Auction) (targets caps : List Tranches) where
       none = λ p h l.
           let s = L .no-item p h l in
           next-none z (limits-take t revised-within) p l (price-is p l ∙ s .2) (before-is p l ∙ s .2);
-      phase = rw (ne-eqb (a .round) 1 (λ q. omega (arith, cut-second)))
-          (both (lt-ltb 0 (excess z) some-excess) (implied (eqb (a .round) 2) (nothingKept z) (λ _.
-          all-give (λ p. eqb (keptOn z p) 0) m (λ p hp. eq-eqb _ 0 (kept-none p hp)))));
+      phase = later-open (with bidsOpen (nextPrices z) (nextBefores z)) (λ q. omega (arith, cut-second)) some-excess (λ _. kept-none);
     }
       where
         within-by : (p : ℕ) → p < m → (s : Bool) → ltb (targetOf t p) (held (z .records) n p) ≡ s
@@ -377,7 +366,7 @@ module _ (a : Auction) (targets caps : List Tranches) where
           row = K .row;
           price = x;
           before = y;
-          free = list-long (λ b. tranches (freeOf a b + cutFrom a caps b)) 32;
+          free = list-long _ 32;
           records = list-long (λ k. setTo (recordAt (a .records) k) (givenFor caps (k % 8))) 256;
           bids = K .bids;
         }
@@ -427,33 +416,3 @@ module _ (a : Auction) (targets caps : List Tranches) where
               stayed = λ o l. N .stayed l .0 ∙ x;
               ended = λ o. clash refl o;
             }
-
-    -- q is the starting price, and p too where the product is not above its revised target
-    abbrev Starts : List ℕ → List ℕ → Type 0
-    Starts pr be = (p : ℕ) → p < m
-        → (getD be p 0 ≡ startOf (a .terms) p) × (held (z .records) n p ≤ targetOf t p → getD pr p 0 ≡ startOf (a .terms) p)
-
-    -- an offer before the cutback counts: each g was offered at no more than the starting price, which is now q, and is p where the
-    -- product is not above its revised target; nothing is kept
-    pub cut-offers : (Going Before Exit : Offers) → Backed Going Before Exit a → Backed Going Before Exit (cutBack a targets caps)
-    unfolding reduced revised
-    cut-offers Going Before Exit B =
-        cut-each (Backed Going Before Exit) (λ e. backed stopped (z .price) (z .before) (starts e)) (λ e. backed bidsOpen (nextPrices z) (nextBefores z) (goes e))
-      where
-        starts : stops z ≡ true → Starts (z .price) (z .before)
-        starts e p hp = (before-is p (omega (arith, hm)), λ l. price-is p (omega (arith, hm)))
-
-        goes : stops z ≡ false → Starts (nextPrices z) (nextBefores z)
-        goes e p hp = (next-before e p hp (ltb (targetOf t p) (held (z .records) n p)) refl, λ l. next-of e p hp .stayed l .0 ∙ price-is p (omega (arith, hm)))
-
-        backed : (ph : ℕ) (pr be : List ℕ) → Starts pr be → Backed Going Before Exit (with ph pr be)
-        backed ph pr be s = record {
-          going = λ b p hb hp h.
-              let g = ap goingIn (record-of b p (omega (arith, hn)) (omega (arith, hm))) in
-              let r = B .going b p hb hp (omega arith) in
-              let v = s p hp in
-              let w = S .prices p hp in
-              (r .0, r .1, omega (arith, r .2), r .3, omega (arith, r .4, v, w), λ l. omega (arith, r .4, w, v .1 l));
-          denied = λ b p hb hp h. absurd (let x : ⊥ = omega (arith, none-kept b p hb hp) in x);
-          retained = λ b p hb hp h. absurd (let x : ⊥ = omega (arith, none-kept b p hb hp) in x);
-        }

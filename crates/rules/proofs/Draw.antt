@@ -1,16 +1,18 @@
--- What a draw order that fits gives: its length, entries in range, every bidder found. Assumes nothing.
-use mathlib.Core.Path.{_≡_, refl}
-use mathlib.Core.Bool.{true, _&&_}
+-- What a draw order that fits gives: its length, entries in range, every bidder found, none twice. Assumes nothing.
+use mathlib.Core.Path.{_≡_, refl, sym, _∙_, ap}
+use mathlib.Core.Bool.{Bool, true, false, _&&_}
 use mathlib.Core.List.{List}
-use Prim.Native.Nat.{ℕ, _<_}
-use borrow.Author.Tests.{eqb-true, ltb-true}
+use Prim.Native.Nat.{ℕ, _≤_, _<_}
+use native.Mathlib.Omega.{arith}
+use borrow.Author.Tests.{eqb-true, eqb-false, eq-eqb, ne-eqb, ltb-true}
 use lib.ListN.{length}
 use lib.Dec.{eqb, ltb}
 use Rattle.rules.specs.declared.Pick.{Pick}
 use Rattle.rules.specs.declared.Pick.the-variants.{At, Nobody}
-use Rattle.rules.specs.Count.{allUpTo, firstUpTo, never, isAt}
+use Rattle.rules.specs.Count.{sumUpTo, allUpTo, firstUpTo, never, isAt}
+use Rattle.rules.specs.Bid.{oneIf}
 use Rattle.rules.specs.Round.{drawn, drawFits}
-use Rattle.rules.proofs.Sums.{and-left, and-right, best-found}
+use Rattle.rules.proofs.Sums.{sum-ext, sum-zero, sum-ge, sum-one, sum-two, sum-swap, sum-tight, and-left, and-right, best-found}
 use Rattle.rules.proofs.Lists.{clash, all-take}
 
 module _ (n : ℕ) (order : List ℕ) (D : drawFits n order ≡ true) where
@@ -41,3 +43,34 @@ module _ (n : ℕ) (order : List ℕ) (D : drawFits n order ≡ true) where
   draw-reach b l =
       reach-by b (found b) refl
       (all-take (λ b. isAt (found b)) n (and-right (allUpTo (λ i. ltb (drawn order i) n) n) _ parts) b l)
+
+  -- how often bidder b is drawn
+  abbrev times : ℕ → ℕ
+  times b = sumUpTo (λ i. oneIf (eqb (drawn order i) b)) n
+
+  -- one bidder at each place
+  one-each : (i : ℕ) → i < n → sumUpTo (λ b. oneIf (eqb (drawn order i) b)) n ≡ 1
+  one-each i l =
+      let x = drawn order i in
+      let s = sum-one (λ b. oneIf (eqb x b)) (λ b. 0) x n (draw-range i l) (λ b _ d. ap oneIf (ne-eqb x b (λ e. d (sym e)))) in
+      omega (arith, sum-zero n, ap oneIf (eq-eqb x x refl))
+
+  -- as many places as bidders, and every bidder at one at least: at no more
+  times-most : (b : ℕ) → b < n → times b ≤ 1
+  times-most =
+      sum-tight (λ b. 1) times n
+      (λ b l. let r = draw-reach b l in
+      omega (arith, sum-ge (λ i. oneIf (eqb (drawn order i) b)) n (r .0) (r .1), ap oneIf (eq-eqb (drawn order (r .0)) b (r .2))))
+      (sym (sum-ext _ (λ i. 1) n one-each) ∙ sum-swap (λ i b. oneIf (eqb (drawn order i) b)) n n)
+
+  -- "each once": no bidder stands at two places
+  pub draw-once : (i j : ℕ) → i < n → j < n → drawn order i ≡ drawn order j → i ≡ j
+  draw-once i j li lj e = by (eqb i j) refl
+    where
+      by : (t : Bool) → eqb i j ≡ t → i ≡ j
+      by true f = eqb-true i j f
+      by false f =
+          let s = sum-two (λ k. oneIf (eqb (drawn order k) (drawn order i))) n i j li lj (eqb-false i j f) in
+          let x = ap oneIf (eq-eqb (drawn order i) (drawn order i) refl) in
+          let y = ap oneIf (eq-eqb (drawn order j) (drawn order i) (sym e)) in
+          absurd (let z : ⊥ = omega (arith, times-most (drawn order i) (draw-range i li)) in z)

@@ -16,14 +16,14 @@ use Rattle.rules.specs.Card.{noLine, lineFits, lineZero}
 use Rattle.rules.specs.Held.{goingIn, deniedIn, retainedIn, exitIn, heldIn, recordAt, place, ticked, freeOf}
 use Rattle.rules.specs.Bid.{bidIn, withdrawnIn, exitOn, recordOf, priceAt, beforeAt, onProduct, judged, hasFiled, slotOf}
 use Rattle.rules.specs.Standing.{isOpen, recordZero, zeroFrom}
-use Rattle.rules.specs.Layout.{stored, loaded, allZero}
+use Rattle.rules.specs.Layout.{stored, loaded}
 use Rattle.rules.proofs.Sums.{sum-le}
 use Rattle.rules.proofs.Lists.{all-take, list-at}
 use Rattle.rules.proofs.Tests.{told, shown}
 use Rattle.rules.specs.Stands.{Long, Stands, Accepted}
 use Rattle.rules.proofs.Judged.{judged-take}
 use Rattle.rules.proofs.Priorities.{sum-const, priority-small}
-use Rattle.rules.proofs.Storing.{Fits, loads, stored-some}
+use Rattle.rules.proofs.Storing.{Fits, loads}
 
 fits-if : (l : Line) → bidIn l < 256 → withdrawnIn l < 256 → exitOn l < 131072 → l .priority < 8 → lineFits l ≡ true
 fits-if l b w x p = search shown
@@ -193,7 +193,3 @@ module _ (a : Auction) (S : Stands a) where
   -- a standing state that is stored is loaded
   pub standing-loads : Long a → a .filed < 4294967296 → loaded (stored a) ≡ a
   standing-loads L h = loads a L (fits h)
-
-  -- and is not taken for an issued one
-  pub standing-some : allZero (stored a) ≡ false
-  standing-some = stored-some a (phase-small .0) (omega (arith, phase-small))

@@ -2,9 +2,9 @@
 use mathlib.Core.Path.{_≡_, refl, sym, _∙_, ap}
 use mathlib.Core.Bool.{Bool, true, false, _&&_, not, cond}
 use mathlib.Core.List.{List, []}
-use Prim.Native.Nat.{ℕ, _+_, _-_, _<_}
+use Prim.Native.Nat.{ℕ, _+_, _-_, _≤_, _<_}
 use native.Mathlib.Omega.{arith}
-use borrow.Author.Tests.{ltb-true, ltb-false, leb-true, lt-ltb, le-ltb, le-leb, eq-eqb, not-false}
+use borrow.Author.Tests.{ltb-true, ltb-false, leb-true, lt-ltb, le-leb, eq-eqb, not-false}
 use lib.Dec.{eqb, ltb, leb}
 use Rattle.rules.specs.declared.Line.{Line}
 use Rattle.rules.specs.declared.Record.{Record}
@@ -15,7 +15,7 @@ use Rattle.rules.specs.Held.{goingIn, ticked, freeOf}
 use Rattle.rules.specs.Bid.{bidIn, withdrawnIn, exitOn, reduction, increase, reductions, increases, withdrawals, overCap, wrongReduction, overEligible, wrongWithdrawn, wrongExit, increased, numbered, oneIf, wrongPriority, recordOf, priceAt, beforeAt, onProduct, judged}
 use Rattle.rules.proofs.Sums.{sum-ext, sum-six, and-left}
 use Rattle.rules.proofs.Lists.{both, all-give, all-take, all-ext}
-use Rattle.rules.proofs.Tests.{told, shown}
+use Rattle.rules.proofs.Tests.{told, shown, sure-false}
 use Rattle.rules.specs.Stands.{Accepted}
 
 -- a number not given
@@ -58,7 +58,7 @@ module _ (m : ℕ) (tick : ℕ → Bool) (cap price before : ℕ → ℕ) (r : �
       let p11 = passed (wrongWithdrawn m r l f) 11 _ (omega arith) (p10 .1) in
       let p12 = passed (wrongExit m r l price before) 12 _ (omega arith) (p11 .1) in
       let p13 = passed (wrongPriority m r l f) 13 _ (omega arith) (p12 .1) in
-      let fits = ltb-false (sumUpTo (λ p. goingIn (r p)) m + f) (sumUpTo (λ p. bidIn (l p)) m) (p10 .0) in
+      let fits : sumUpTo (λ p. bidIn (l p)) m ≤ sumUpTo (λ p. goingIn (r p)) m + f = omega (arith, ltb-false) in
       let w = not-false (allUpTo (λ p. leb (withdrawnIn (l p)) (reduction (r p) (l p))) m && eqb (sumUpTo (λ p. withdrawnIn (l p)) m) (withdrawals m r l f)) (p11 .0) in
       let same : sumUpTo (λ p. withdrawnIn (l p)) m ≡ withdrawals m r l f = search told in
       record {
@@ -86,7 +86,7 @@ module _ (m : ℕ) (tick : ℕ → Bool) (cap price before : ℕ → ℕ) (r : �
   verdict-give A =
       let p8 : overCap m r l cap ≡ false = all-right _ m (λ p h. le-leb _ _ (A .caps p h)) in
       let p9 : wrongReduction m r l tick ≡ false = all-right _ m (λ p h. tick-by A p h (tick p) refl) in
-      let p10 : overEligible m r l f ≡ false = le-ltb _ _ (A .eligible) in
+      let p10 : overEligible m r l f ≡ false = sure-false _ (λ e. omega (arith, A .eligible, ltb-true)) in
       let p11 : wrongWithdrawn m r l f ≡ false =
       ap not (both (all-give _ m (λ p h. le-leb _ _ (A .withdrawn p h))) (eq-eqb (sumUpTo (λ p. withdrawnIn (l p)) m) (withdrawals m r l f) (omega (arith, A .total)))) in
       let p12 : wrongExit m r l price before ≡ false = all-right _ m (λ p h. exit-by A p h (ltb 0 (withdrawnIn (l p))) refl) in
@@ -132,13 +132,6 @@ pub judged-give : (a : Auction) (b : ℕ) (ls : List Line)
     → judged a b ls ≡ 0
 unfolding judged
 judged-give a b ls A = verdict-give _ _ _ _ _ _ _ _ A
-
--- the same lines on the products in use are judged alike
-pub judged-lines : (a : Auction) (b : ℕ) (ls ks : List Line) → ((p : ℕ) → p < a .terms .products → onProduct ls p ≡ onProduct ks p)
-    → judged a b ls ≡ judged a b ks
-unfolding judged
-judged-lines a b ls ks q =
-    verdict-ext (a .terms .products) (ticked a) (capOf (a .terms)) (priceAt a) (beforeAt a) (recordOf a b) (onProduct ls) (onProduct ks) (freeOf a b) q
 
 -- with the cards left out
 bare : Auction → Auction

@@ -12,7 +12,7 @@ use Rattle.rules.specs.declared.Pick.the-variants.{At, Nobody}
 use Rattle.rules.specs.declared.Place.{Place}
 use Rattle.rules.specs.declared.Kept.{Kept}
 use Rattle.rules.specs.Count.{sumUpTo, firstUpTo, never}
-use Rattle.rules.specs.Keep.{Keepable, risen, cancelBy, short, leaver, mover, denyAt, keepMover, keepBy, keepStep, kept, whileShort, keepLoop}
+use Rattle.rules.specs.Keep.{Keepable, risen, cancelBy, short, leaver, mover, denyAt, keepStep, canKeep, kept, whileShort, keepLoop}
 use Rattle.rules.specs.Held.{standing, below}
 use Rattle.rules.specs.Accept.{placeAt, changed, heldOf, keptOf, leftOf, leavingOf, leavingAt, movingOf, riseOf, retain, deny, cancel, column, rowOf, every}
 use Rattle.rules.proofs.Sums.{sum-le, sum-six, sum-ge, sum-pos, sum-one, and-left, and-right, best-found, best-none}
@@ -102,6 +102,14 @@ moved-cancel x h l = record {
   exit-same = λ e. refl;
   exit-new = λ l. absurd (let z : ⊥ = omega arith in z);
 }
+
+-- "Unkept withdrawals go first, .. then switches": the step by what is left
+module _ (m n : ℕ) (draw : ℕ → ℕ) (ps : List Place) (p i : ℕ) where
+  pub retain-first : leaver n draw ps p ≡ At i → keepStep m n draw ps p ≡ changed retain ps (draw i * 8 + p)
+  retain-first e = rw e
+
+  pub deny-next : leaver n draw ps p ≡ Nobody → mover n draw ps p ≡ At i → keepStep m n draw ps p ≡ denyAt m ps (draw i) p
+  deny-next e g = rw (e, g)
 
 -- what one step on product p does
 pub record Stepped (m n p : ℕ) (ps ps′ : List Place) : Type 0 where
@@ -231,32 +239,31 @@ module _ (m n : ℕ) (target : ℕ → ℕ) (tick : ℕ → Bool) (draw : ℕ �
         denied : Stepped m n p ps (denyAt m ps b p)
         denied = deny-by (risen m (changed deny ps (b * 8 + p)) b) refl
 
-      -- nobody leaves, so somebody moves
-      mover-by : ((i : ℕ) → i < n → leavingOf (placeAt ps (draw i * 8 + p)) ≤ 0) → (r : Pick) → mover n draw ps p ≡ r
-          → Stepped m n p ps (keepMover m draw r ps p)
-      mover-by z (At i) e =
-          let f = best-found (λ i. ltb 0 (movingOf (placeAt ps (draw i * 8 + p)))) never n i e in
-          denied (draw i) (range i (f .0)) (ltb-true _ _ (f .1))
-      mover-by z Nobody e =
-          let s = some-left p lp tp sh in
-          let r = reach (s .0) (s .1) in
-          let f = best-none (λ i. ltb 0 (movingOf (placeAt ps (draw i * 8 + p)))) never n e (r .0) (r .1) in
-          let g = subst (λ b. 0 < leftOf (placeAt ps (b * 8 + p))) (sym (r .2)) (s .2) in
-          let y = ltb-false 0 (movingOf (placeAt ps (draw (r .0) * 8 + p))) f in
-          absurd (let x : ⊥ = omega (arith, z (r .0) (r .1)) in x)
-
-      -- withdrawals go first
-      leaver-by : (r : Pick) → leaver n draw ps p ≡ r → Stepped m n p ps (keepBy m n draw r ps p)
-      leaver-by (At i) e =
+      -- what is kept, whichever is left
+      step-by : (q r : Pick) → leaver n draw ps p ≡ q → mover n draw ps p ≡ r
+          → (canKeep n draw ps p ≡ true) × Stepped m n p ps (keepStep m n draw ps p)
+      step-by (At i) r e g =
           let f = best-found (λ i. ltb 0 (leavingOf (placeAt ps (draw i * 8 + p)))) _ n i e in
           let l = range i (f .0) in
-          retain-stepped m n hm ps (draw i) p l lp (omega (arith, K .long)) (ltb-true _ _ (f .1))
-      leaver-by Nobody e =
-          mover-by (λ i l. ltb-false _ _ (best-none (λ i. ltb 0 (leavingOf (placeAt ps (draw i * 8 + p)))) _ n e i l)) (mover n draw ps p) refl
+          let s = retain-stepped m n hm ps (draw i) p l lp (omega (arith, K .long)) (ltb-true _ _ (f .1)) in
+          (rw e, rw (retain-first m n draw ps p i e) s)
+      step-by Nobody (At i) e g =
+          let f = best-found (λ i. ltb 0 (movingOf (placeAt ps (draw i * 8 + p)))) never n i g in
+          (rw (e, g), rw (deny-next m n draw ps p i e g) (denied (draw i) (range i (f .0)) (ltb-true _ _ (f .1))))
+      step-by Nobody Nobody e g =
+          let s = some-left p lp tp sh in
+          let r = reach (s .0) (s .1) in
+          let x = best-none (λ i. ltb 0 (leavingOf (placeAt ps (draw i * 8 + p)))) _ n e (r .0) (r .1) in
+          let y = best-none (λ i. ltb 0 (movingOf (placeAt ps (draw i * 8 + p)))) never n g (r .0) (r .1) in
+          let z = subst (λ b. 0 < leftOf (placeAt ps (b * 8 + p))) (sym (r .2)) (s .2) in
+          absurd (let x : ⊥ = omega (arith, ltb-false) in x)
 
-      -- so one tranche is kept
+      -- so one tranche can be kept, and is
+      pub can-keep : canKeep n draw ps p ≡ true
+      can-keep = step-by (leaver n draw ps p) (mover n draw ps p) refl refl .0
+
       pub keep-stepped : Stepped m n p ps (keepStep m n draw ps p)
-      keep-stepped = leaver-by (leaver n draw ps p) refl
+      keep-stepped = step-by (leaver n draw ps p) (mover n draw ps p) refl refl .1
 
     -- a step leaves the places keepable
     module _ (ps′ : List Place) (p : ℕ) (sh : column heldOf ps p n < target p) (S : Stepped m n p ps ps′) where
@@ -315,14 +322,15 @@ module _ (m n : ℕ) (target : ℕ → ℕ) (tick : ℕ → Bool) (draw : ℕ �
 
   loop-by : (f : ℕ) → Ends f → (ps : List Place) (c : ℕ) → Keepable m n target tick ps → every leftOf ps n ≤ suc f
       → (q : Pick) → firstUpTo (short n target tick ps) m ≡ q
-      → Ended m n target tick ps c (whileShort q (λ p. keepLoop m n target tick draw f (keepStep m n draw ps p) (c + 1)) (kept ps c))
+      → Ended m n target tick ps c (whileShort q
+      (λ p. cond (canKeep n draw ps p) (keepLoop m n target tick draw f (keepStep m n draw ps p) (c + 1)) (kept ps c)) (kept ps c))
   loop-by f go ps c K h (At p) e =
       let g = best-found (short n target tick ps) never m p e in
       let tp = and-left (tick p) _ (g .1) in
       let sh : column heldOf ps p n < target p = below-true (column heldOf ps p n) (target p) (and-right (tick p) _ (g .1)) in
       let S = keep-stepped ps K p (g .0) tp sh in
       let r = go (keepStep m n draw ps p) (c + 1) (keepable-step ps K (keepStep m n draw ps p) p sh S) (omega (arith, S .left)) in
-      record {
+      rw (can-keep ps K p (g .0) tp sh) record {
         keepable = r .keepable;
         moved = λ j. moved-trans _ _ _ (S .moved j) (r .moved j);
         owed = λ b. omega (arith, S .owed b, r .owed b);
@@ -362,18 +370,3 @@ module _ (m n : ℕ) (target : ℕ → ℕ) (tick : ℕ → Bool) where
   kept-met ps c k E p lp tp =
       let x = met-by (k .places) p tp (tick p) refl (E .none p lp) in
       (x, λ g. omega (arith, E .keepable .settled p lp tp g))
-
--- the loop a step at a time
-module _ (m n : ℕ) (target : ℕ → ℕ) (tick : ℕ → Bool) (draw : ℕ → ℕ) where
-  pub loop-none : (f : ℕ) (ps : List Place) (c : ℕ) → firstUpTo (short n target tick ps) m ≡ Nobody
-      → keepLoop m n target tick draw f ps c ≡ kept ps c
-  unfolding keepLoop
-  loop-none zero ps c e = refl
-  loop-none (suc f) ps c e =
-      ap (λ q. whileShort q (λ p. keepLoop m n target tick draw f (keepStep m n draw ps p) (c + 1)) (kept ps c)) e
-
-  pub loop-step : (f : ℕ) (ps : List Place) (c p : ℕ) → firstUpTo (short n target tick ps) m ≡ At p
-      → keepLoop m n target tick draw (suc f) ps c ≡ keepLoop m n target tick draw f (keepStep m n draw ps p) (c + 1)
-  unfolding keepLoop
-  loop-step f ps c p e =
-      ap (λ q. whileShort q (λ p. keepLoop m n target tick draw f (keepStep m n draw ps p) (c + 1)) (kept ps c)) e

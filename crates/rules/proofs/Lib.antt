@@ -24,6 +24,6 @@ pub mod Booked
 pub mod Prices
 pub mod Settled
 pub mod Round
-pub mod Offers
 pub mod Cutback
 pub mod OneCall
+pub mod Spare

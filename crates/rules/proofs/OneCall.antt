@@ -1,7 +1,7 @@
 -- One call on lent bytes, from any state: what it leaves stands, and what it refuses is left as it was. Assumes nothing.
 use mathlib.Core.Path.{_≡_, refl, sym, _∙_, ap, subst}
 use mathlib.Core.Bool.{Bool, true, false, cond}
-use mathlib.Core.List.{List}
+use mathlib.Core.List.{List, []}
 use Prim.Native.Nat.{ℕ, zero, suc, _*_, _≤_, _<_}
 use native.Mathlib.Omega.{arith}
 use native.Mathlib.Nat.{div-mul-le-self, le-div-iff-mul-le}
@@ -9,14 +9,12 @@ use borrow.Author.Tests.{eqb-true, eqb-false, eq-eqb, ne-eqb}
 use lib.ListN.{length, getD, replicate}
 use lib.Dec.{eqb, leb}
 use Rattle.rules.specs.declared.Tranches.{Tranches}
-use Rattle.rules.specs.declared.Line.{Line}
 use Rattle.rules.specs.declared.Settings.{Settings}
 use Rattle.rules.specs.declared.Auction.{Auction}
 use Rattle.rules.specs.declared.Outbid.{Outbid}
-use Rattle.rules.specs.declared.Answer.the-variants as answer
-use Rattle.rules.specs.declared.Calculation.{Calculation}
+use Rattle.rules.specs.declared.Calculated.{Calculated}
 use Rattle.rules.specs.declared.Calculation.the-variants as calculation
-use Rattle.rules.specs.Answers.{Outcome, outcome, unlessRefused, closed, stopped}
+use Rattle.rules.specs.Answers.{Outcome, outcome, Leaves, Gives, said, answerOf, calculationSaid, unlessRefused, closed, stopped}
 use Rattle.rules.specs.Settings.{settingsFit, termsOf}
 use Rattle.rules.specs.OneCall.{StandsIn, RefusedSame, FiledOnly, CutOnly, CutPrice}
 use Rattle.rules.specs.Held.{excess}
@@ -25,8 +23,7 @@ use Rattle.rules.specs.Cutback.{mayCut, cutBack, suggestedVolume, sugges
 use Rattle.rules.specs.Layout.{stateLength, stored, loaded, allZero}
 use Rattle.rules.specs.Standing.{isOpen, stands}
 use Rattle.rules.specs.Card.{readCard, cardOf, writeNumber, writeCard}
-use Rattle.rules.specs.Bid.{hasFiled, slotOf}
-use Rattle.rules.specs.Calls.{opened, openNumber, openCall, ofState, cardNumber, fileNumber, bidderOn, afterCard, fileCall, countNumber, drawNumber, calculateNumber, calculationDone, calculateCall, cutNumber, cutbackNumber, cutbackCall, reportNumber, resultNumber, returnNumber, returnCall, writeCall}
+use Rattle.rules.specs.Calls.{opened, openNumber, openCall, ofState, cardNumber, fileNumber, bidderOn, afterCard, fileCall, countNumber, drawNumber, calculateNumber, calculationDone, calculateCall, cutNumber, cutbackNumber, cutbackCall, reportNumber, resultNumber, returnNumber, returnCall}
 use Rattle.rules.proofs.Lists.{clash, all-give, all-take}
 use Rattle.rules.specs.Stands.{Stands}
 use Rattle.rules.proofs.Standing.{stands-take, stands-give}
@@ -38,6 +35,22 @@ use Rattle.rules.proofs.Fitting.{phase-small, standing-loads}
 use Rattle.rules.proofs.Calling.{granted, opens, opens-loads, read-long, file-take, files, files-loads}
 use Rattle.rules.proofs.Round.{round-stands, round-long}
 use Rattle.rules.proofs.Cutback.{cut-stands, cut-long, cut-only, cut-price}
+
+-- ---- one outcome
+
+-- "any two outcomes satisfying a contract coincide": answer and bytes of a call lent bytes to write, the answer of the others
+pub leaves-one : {A : Type 0} (d : Outcome A) (o k : A) (s t : List ℕ) → Leaves d o s → Leaves d k t → (o ≡ k) × (s ≡ t)
+leaves-one d o k s t O K =
+    let a = O .0 in
+    let b = K .0 in
+    let x = O .1 in
+    let y = K .1 in
+    (cc, cc)
+
+pub gives-one : {A : Type 0} (d o k : A) → Gives d o → Gives d k → o ≡ k
+gives-one d o k a b = cc
+
+-- ---- standing
 
 -- "Standing means", of the auction that the bytes hold
 pub stood : (s : List ℕ) → StandsIn s → Stands (loaded s)
@@ -103,24 +116,25 @@ neither s l z n =
 -- ---- refused
 
 -- "Every refusal returns its number only and writes nothing."
-unless-same : (k n : ℕ) (new old : List ℕ) → unlessRefused k new old .answer ≡ answer.Refused n → unlessRefused k new old .bytes ≡ old
-unless-same zero n new old e = let z : _≡_ {A = ℕ} 0 1 = cc in absurd (let x : ⊥ = omega arith in x)
-unless-same (suc k) n new old e = rw (ne-eqb (suc k) 0 (λ z. omega arith))
+unless-same : (k : ℕ) (new old : List ℕ) → 0 < answerOf (unlessRefused k new old .answer) .number → unlessRefused k new old .bytes ≡ old
+unless-same zero new old h = absurd (let x : ⊥ = omega arith in x)
+unless-same (suc k) new old h = rw (ne-eqb (suc k) 0 (λ z. omega arith))
 
-calculate-same : (s : List ℕ) (n : ℕ) (done : Outcome Calculation) (k : ℕ) → (j o : ℕ) × (done .answer ≡ calculation.Done j o) → (t : Bool)
-    → cond t done (outcome (calculation.Refused k) s) .answer ≡ calculation.Refused n → cond t done (outcome (calculation.Refused k) s) .bytes ≡ s
-calculate-same s n done k d true e = let f = d .2 in let z : _≡_ {A = ℕ} 0 1 = cc in absurd (let x : ⊥ = omega arith in x)
-calculate-same s n done k d false e = refl
+calculate-same : (s : List ℕ) (c : Calculated) (k : ℕ) (t : Bool)
+    → 0 < calculationSaid (cond t (calculationDone c) (outcome (calculation.Refused k) s) .answer) .number
+    → cond t (calculationDone c) (outcome (calculation.Refused k) s) .bytes ≡ s
+calculate-same s c k true h = absurd (let x : ⊥ = omega arith in x)
+calculate-same s c k false h = refl
 
-pub refused-same : (s : List ℕ) (n : ℕ) → RefusedSame s n
+pub refused-same : (s : List ℕ) → RefusedSame s
 unfolding openCall fileCall calculateCall cutbackCall returnCall writeCard
-refused-same s n = record {
-  opening = λ x. unless-same (openNumber s x) n (stored (opened (termsOf x))) s;
-  filing = λ c. unless-same (fileNumber s c) n (stored (afterCard c (loaded s))) s;
-  calculating = λ draw. calculate-same s n _ _ (_, _, refl) (eqb (calculateNumber s draw) 0);
-  cutting = λ targets caps. unless-same (cutbackNumber s targets caps) n (stored (cutBack (loaded s) targets caps)) s;
-  returning = unless-same (returnNumber s) n (replicate stateLength 0) s;
-  writing = λ m b r ls. unless-same (writeNumber (length s) m b r ls) n (cardOf m b r ls) s;
+refused-same s = record {
+  opening = λ x. unless-same (openNumber s x) (stored (opened (termsOf x))) s;
+  filing = λ c. unless-same (fileNumber s c) (stored (afterCard c (loaded s))) s;
+  calculating = λ draw. calculate-same s (calculated (loaded s) draw) (calculateNumber s draw) (eqb (calculateNumber s draw) 0);
+  cutting = λ targets caps. unless-same (cutbackNumber s targets caps) (stored (cutBack (loaded s) targets caps)) s;
+  returning = unless-same (returnNumber s) (replicate stateLength 0) s;
+  writing = λ m b r ls. unless-same (writeNumber (length s) m b r ls) (cardOf m b r ls) s;
 }
 
 -- the same by the number: where it is not 0 the bytes stay
@@ -146,12 +160,12 @@ cutback-refused s targets caps h = rw (ne-eqb (cutbackNumber s targets caps) 0 h
 pub zeros : (n : ℕ) → allZero (replicate n 0) ≡ true
 zeros n = all-give _ (length (replicate {A = ℕ} n 0)) (λ i l. eq-eqb _ 0 (blank 0 n i))
 
-returned : (n : ℕ) (s z : List ℕ) → n ≡ 0 → (unlessRefused n z s .answer ≡ answer.Done) × (unlessRefused n z s .bytes ≡ z)
+returned : (n : ℕ) (s z : List ℕ) → n ≡ 0 → (answerOf (unlessRefused n z s .answer) ≡ said 0 []) × (unlessRefused n z s .bytes ≡ z)
 returned n s z e = (rw e, rw e)
 
 -- "A return accepts any state of the right length and leaves it all zero, as first issued."
 pub return-issued : (s : List ℕ) → length s ≡ 3333
-    → (returnCall s .answer ≡ answer.Done) × (returnCall s .bytes ≡ replicate stateLength 0) × (allZero (returnCall s .bytes) ≡ true)
+    → (answerOf (returnCall s .answer) ≡ said 0 []) × (returnCall s .bytes ≡ replicate stateLength 0) × (allZero (returnCall s .bytes) ≡ true)
 unfolding returnCall
 return-issued s l =
     let r = returned (returnNumber s) s (replicate stateLength 0) (rw (eq-eqb (length s) 3333 l)) in
@@ -184,7 +198,7 @@ module _ (s : List ℕ) (x : Settings) (new : openNumber s x ≡ 0) (e : length 
   open-stands = rw open-bytes (stored-stands (opened (termsOf x)) (opens x open-fits) (opens-loads x open-fits e r))
 
 -- a standing state is not opened again: 17, and its bytes stay
-pub open-standing : (s : List ℕ) (x : Settings) → StandsIn s → (openCall s x .answer ≡ answer.Refused 17) × (openCall s x .bytes ≡ s)
+pub open-standing : (s : List ℕ) (x : Settings) → StandsIn s → (answerOf (openCall s x .answer) ≡ said 17 []) × (openCall s x .bytes ≡ s)
 unfolding openCall
 open-standing s x S =
     let n : openNumber s x ≡ 17 = rw (eq-eqb (length s) 3333 (S .long), not-issued s S) in

@@ -18,7 +18,7 @@ use Rattle.rules.specs.Calls.{opened}
 use Rattle.rules.proofs.Sums.{sum-ext, sum-zero}
 use Rattle.rules.proofs.Lists.{both, all-give, list-at, list-long}
 use Rattle.rules.specs.Stands.{Long, Stands}
-use Rattle.rules.proofs.Standing.{limits-take, stands-give}
+use Rattle.rules.proofs.Standing.{limits-take}
 
 -- a list of one thing has it everywhere
 pub blank : {A : Type 0} (x : A) (n k : ℕ) → getD (replicate n x) k x ≡ x
@@ -95,10 +95,6 @@ module _ (t : Terms) (w : withinLimits t ≡ true) where
         slots = λ b h. no-slot b;
         phase = opening;
       }
-
-  -- and passes its test
-  pub opened-passes : stands (opened t) ≡ true
-  opened-passes = stands-give (opened t) opened-stands
 
 -- its lists are as long as its arrays
 pub opened-long : (t : Terms) → length (t .item) ≡ 8 → length (t .eligibility) ≡ 32 → length (t .row) ≡ 8 → Long (opened t)

@@ -142,19 +142,20 @@ module _ (m n : ℕ) (hm : m ≤ 8) (s : Outbid) (b p : ℕ) (hb : b < n) (hp : 
   ps = s .places
 
   -- a withdrawal outbid
-  pub retained-stepped : 0 < retainedOf (placeAt (s .places) (b * 8 + p))
-      → OutStepped m n p s (outbid (changed outbidWithdrawal (s .places) (b * 8 + p)) (s .free) (s .count + 1))
-  retained-stepped h = record {
+  pub retained-stepped : 0 < retainedOf (placeAt (s .places) (b * 8 + p)) → (fs : List Tranches) (k : ℕ)
+      → ((c : ℕ) → freeAt fs c ≡ freeAt (s .free) c) → length fs ≡ length (s .free) → k ≡ s .count + 1
+      → OutStepped m n p s (outbid (changed outbidWithdrawal (s .places) (b * 8 + p)) fs k)
+  retained-stepped h fs k free-same lf ek = record {
     long = length-set ps (b * 8 + p) _;
-    long-free = refl;
+    long-free = lf;
     outed = each outbidWithdrawal ps (b * 8 + p) long Outed outed-refl (outed-withdrawal _);
     here = let x = column-at outbidWithdrawal ps b p long heldOf n hb in omega arith;
     there = λ q l d. column-beside outbidWithdrawal ps b p long heldOf q n (omega arith) (omega arith) d;
     kept-here = let x = column-at outbidWithdrawal ps b p long keptOf n hb in omega arith;
     kept-there = λ q l d. column-beside outbidWithdrawal ps b p long keptOf q n (omega arith) (omega arith) d;
     fuel = let x = every-at outbidWithdrawal ps b p long keptOf n hb (omega arith) in omega arith;
-    steps = refl;
-    worth = λ c. let x = row-flat outbidWithdrawal ps b p long worthOf refl c m in omega arith;
+    steps = ek;
+    worth = λ c. let x = row-flat outbidWithdrawal ps b p long worthOf refl c m in omega (arith, free-same c);
   }
 
   -- a denied switch outbid
@@ -208,7 +209,7 @@ module _ (m n : ℕ) (target : ℕ → ℕ) (tick : ℕ → Bool) (draw : ℕ �
     retained-by z (At i) e =
         let f = best-found (λ i. ltb 0 (retainedOf (placeAt (s .places) (draw i * 8 + p)))) _ n i e in
         let l = range i (f .0) in
-        retained-stepped m n hm s (draw i) p l lp (omega arith) (omega arith) (ltb-true _ _ (f .1))
+        retained-stepped m n hm s (draw i) p l lp (omega arith) (omega arith) (ltb-true _ _ (f .1)) _ _ (λ c. refl) refl (omega arith)
     retained-by z Nobody e =
         let k = sum-pos (λ b. keptOf (placeAt (s .places) (b * 8 + p))) n some in
         let r = reach (k .0) (k .1) in
@@ -316,15 +317,3 @@ module _ (m n : ℕ) (target : ℕ → ℕ) (tick : ℕ → Bool) (draw : ℕ �
   unfolding outbidLoop
   out-ends zero s hl hf h = stays s (λ p lp. over-none (s .places) h p lp (over n target tick (s .places) p) refl)
   out-ends (suc f) s hl hf h = loop-by f (out-ends f) s hl hf h (firstUpTo (over n target tick (s .places)) m) refl
-
--- the loop a step at a time
-module _ (m n : ℕ) (target : ℕ → ℕ) (tick : ℕ → Bool) (draw : ℕ → ℕ) where
-  pub out-none : (f : ℕ) (s : Outbid) → firstUpTo (over n target tick (s .places)) m ≡ Nobody → outbidLoop m n target tick draw f s ≡ s
-  unfolding outbidLoop
-  out-none zero s e = refl
-  out-none (suc f) s e = ap (λ q. whileOver q (λ p. outbidLoop m n target tick draw f (outbidStep n draw s p)) s) e
-
-  pub out-step : (f : ℕ) (s : Outbid) (p : ℕ) → firstUpTo (over n target tick (s .places)) m ≡ At p
-      → outbidLoop m n target tick draw (suc f) s ≡ outbidLoop m n target tick draw f (outbidStep n draw s p)
-  unfolding outbidLoop
-  out-step f s p e = ap (λ q. whileOver q (λ p. outbidLoop m n target tick draw f (outbidStep n draw s p)) s) e

@@ -11,7 +11,7 @@ use Rattle.rules.specs.declared.Record.{Record}
 use Rattle.rules.specs.Count.{sumUpTo, allUpTo}
 use Rattle.rules.specs.Held.{goingIn}
 use Rattle.rules.specs.Bid.{bidIn, reduction, reductions, increases, increased, numbered, wellNumbered, oneIf}
-use Rattle.rules.proofs.Sums.{sum-ext, sum-six, sum-add, sum-zero, sum-ge, sum-pos, and-left, and-right}
+use Rattle.rules.proofs.Sums.{sum-ext, sum-six, sum-zero, sum-ge, sum-pos, sum-swap, sum-tight, and-left, and-right}
 use Rattle.rules.proofs.Lists.{all-take}
 use Rattle.rules.proofs.Tests.{told}
 use Rattle.rules.specs.Stands.{Accepted}
@@ -20,17 +20,6 @@ use Rattle.rules.specs.Stands.{Accepted}
 pub sum-const : (x n : ℕ) → sumUpTo (λ i. x) n ≡ x * n
 sum-const x zero = omega arith
 sum-const x (suc n) = ap (λ y. y + x) (sum-const x n) ∙ sym (mul-suc x n)
-
--- sums by rows and by columns
-sum-swap : (g : ℕ → ℕ → ℕ) (c m : ℕ) → sumUpTo (λ k. sumUpTo (g k) m) c ≡ sumUpTo (λ p. sumUpTo (λ k. g k p) c) m
-sum-swap g zero m = sym (sum-zero m)
-sum-swap g (suc c) m = ap (λ x. x + sumUpTo (g c) m) (sum-swap g c m) ∙ sym (sum-add (λ p. sumUpTo (λ k. g k p) c) (g c) m)
-
--- at most, place by place, and the same sum: the same, place by place
-sum-tight : (f g : ℕ → ℕ) (n : ℕ) → ((i : ℕ) → i < n → f i ≤ g i) → sumUpTo f n ≡ sumUpTo g n → (i : ℕ) → i < n → g i ≤ f i
-sum-tight f g n h e i l =
-    let s = sum-six f (λ i. g i - f i) (λ i. 0) g (λ i. 0) (λ i. 0) n (λ j k. omega (arith, h j k)) in
-    omega (arith, sum-ge (λ i. g i - f i) n i l, sum-zero n)
 
 one-by : (t : Bool) (x c s : ℕ) → eqb x (c + 1) ≡ t → s ≤ 1 → (c < x → s ≡ 0) → (s + oneIf t ≤ 1) × (suc c < x → s + oneIf t ≡ 0)
 one-by true x c s e h z = let q = eqb-true x (c + 1) e in (omega (arith, z (omega arith)), λ l. absurd (let y : ⊥ = omega arith in y))

@@ -4,28 +4,29 @@ use mathlib.Core.Bool.{Bool, true, false, cond}
 use mathlib.Core.List.{List}
 use Prim.Native.Nat.{ℕ, _+_, _*_, _%_, _≤_, _<_}
 use native.Mathlib.Omega.{arith}
+use borrow.Author.Tests.{ltb-true, ltb-false}
 use lib.Dec.{ltb}
 use Rattle.rules.specs.declared.Place.{Place}
 use Rattle.rules.specs.declared.Outbid.{Outbid}
 use Rattle.rules.specs.declared.Auction.{Auction}
 use Rattle.rules.specs.Count.{sumUpTo}
 use Rattle.rules.specs.Answers.{closed}
-use Rattle.rules.specs.Settings.{targetOf, capOf, initialOf}
-use Rattle.rules.specs.Held.{deniedIn, heldIn, keptIn, held, ticked, freeOf, eligibility}
+use Rattle.rules.specs.Settings.{targetOf}
+use Rattle.rules.specs.Held.{goingIn, deniedIn, keptIn, held, ticked, eligibility}
 use Rattle.rules.specs.Bid.{bidIn, recordOf, bidOn}
 use Rattle.rules.specs.Accept.{placeAt, acceptedAll, keptOf, riseOf, deem, column}
 use Rattle.rules.specs.Outbid.{deemIf, deemedUpTo}
-use Rattle.rules.specs.Round.{drawFits, afterStep2, afterStep4, calculated}
+use Rattle.rules.specs.Round.{drawFits, afterStep2, afterStep4, settled, calculated}
 use Rattle.rules.specs.Standing.{keptOn, isOpen}
 use Rattle.rules.specs.Counted.{keptWhereTicked, deemedAt, CountsOutbid}
 use Rattle.rules.proofs.Sums.{sum-ext, sum-six, sum-zero}
 use Rattle.rules.specs.Stands.{Stands, Long}
-use Rattle.rules.proofs.Places.{deniedOf}
+use Rattle.rules.proofs.Places.{goingOf}
 use Rattle.rules.proofs.Outbidding.{deemed-exact}
 use Rattle.rules.proofs.Made.{AllAccepted, made-none}
-use Rattle.rules.proofs.Booked.{Booked, kept-end, out-end, unticked, kept-ticked, booked}
+use Rattle.rules.proofs.Booked.{Booked, kept-end, out-end, trail, unticked, kept-ticked, booked}
 use Rattle.rules.specs.OneCall.{PriceAfter}
-use Rattle.rules.proofs.Settled.{Closes, settled-stands, settled-long, settled-prices, settled-closes, settled-terms, settled-held, settled-kept, settled-eligibility}
+use Rattle.rules.proofs.Settled.{Closes, settled-stands, settled-long, settled-prices, settled-closes, settled-terms, settled-held, settled-kept, settled-record, settled-eligibility}
 
 module _ (a : Auction) (draw : List ℕ) (S : Stands a) (L : Long a) (op : isOpen a ≡ true)
     (D : drawFits (a .terms .bidders) draw ≡ true) (A : AllAccepted a) where
@@ -52,17 +53,6 @@ module _ (a : Auction) (draw : List ℕ) (S : Stands a) (L : Long a) (op : isOpe
       → x ≤ held (a .records) (a .terms .bidders) p → x ≤ held (calculated a draw .auction .records) (a .terms .bidders) p
   unfolding calculated
   round-filled p x hp g h = omega (arith, settled-held a _ S B p hp, B .filled p x hp g h)
-
-  -- each bidder stays within the product caps
-  pub round-caps : (b p : ℕ) → b < a .terms .bidders → p < a .terms .products
-      → heldIn (recordOf (calculated a draw .auction) b p) ≤ capOf (a .terms) p
-  round-caps = rw round-terms at (round-stands .caps)
-
-  -- and, with f, within its initial eligibility
-  pub round-eligible : (b : ℕ) → b < a .terms .bidders
-      → sumUpTo (λ p. heldIn (recordOf (calculated a draw .auction) b p)) (a .terms .products)
-      + freeOf (calculated a draw .auction) b ≤ initialOf (a .terms) b
-  round-eligible = rw round-terms at (round-stands .eligible)
 
   -- a bidder's eligibility after the round is what it bid and had denied before it
   pub round-eligibility : (b : ℕ) → b < a .terms .bidders
@@ -112,34 +102,53 @@ module _ (a : Auction) (draw : List ℕ) (S : Stands a) (L : Long a) (op : isOpe
       (λ p hp. ap (λ x. cond (ticked a p) x 0) (settled-kept a o S B p hp) ∙ kept-by p hp (ticked a p) refl .1) in
       omega (arith, kept-end a draw S L op D A .counted, sum-zero m)
 
-  -- step 3 on a product that did not tick
+  -- step 3 on a product that did not tick: an increase is left exactly where more is then held at the going price
   deemed-here : (b p : ℕ) → b < n → p < m → ticked a p ≡ false
-      → keptOf (placeAt l3 (b * 8 + p)) + deemedAt l2 b p ≡ keptIn (recordOf a b p)
+      → keptOf (placeAt l3 (b * 8 + p)) + deemedAt a (calculated a draw .auction) b p ≡ keptIn (recordOf a b p)
+  unfolding calculated
   deemed-here b p hb hp e =
       let z : (b * 8 + p) % 8 ≡ p = omega (arith, S .limits .products) in
       let x = deemed-exact (ticked a) l2 (n * 8) (b * 8 + p) (kept-end a draw S L op D A .keepable .long) (omega (arith, S .limits .products))
       ∙ ap (λ s. deemIf s (placeAt l2 (b * 8 + p))) (ap (ticked a) z ∙ e) in
-      by (ltb 0 (riseOf (placeAt l2 (b * 8 + p)))) (ap keptOf x)
+      by (ltb 0 (riseOf (placeAt l2 (b * 8 + p)))) refl x (ltb (goingIn (recordOf a b p)) (goingIn (recordOf (settled a o) b p))) refl
+      (ap goingIn (settled-record a o S B b p hb hp))
     where
-      by : (u : Bool) → keptOf (placeAt l3 (b * 8 + p)) ≡ keptOf (cond u (deem (placeAt l2 (b * 8 + p))) (placeAt l2 (b * 8 + p)))
-          → keptOf (placeAt l3 (b * 8 + p)) + cond u (deniedOf (placeAt l2 (b * 8 + p))) 0 ≡ keptIn (recordOf a b p)
-      by true k = omega (arith, unticked a draw S L op D A b p hb hp e)
-      by false k = omega (arith, unticked a draw S L op D A b p hb hp e)
+      by : (u : Bool) → ltb 0 (riseOf (placeAt l2 (b * 8 + p))) ≡ u
+          → placeAt l3 (b * 8 + p) ≡ cond u (deem (placeAt l2 (b * 8 + p))) (placeAt l2 (b * 8 + p))
+          → (v : Bool) → ltb (goingIn (recordOf a b p)) (goingIn (recordOf (settled a o) b p)) ≡ v
+          → goingIn (recordOf (settled a o) b p) ≡ goingIn (placeAt (o .places) (b * 8 + p) .holds)
+          → keptOf (placeAt l3 (b * 8 + p)) + cond v (deniedIn (recordOf a b p)) 0 ≡ keptIn (recordOf a b p)
+      by true f x true h g =
+          let k = ap keptOf x in
+          omega (arith, unticked a draw S L op D A b p hb hp e)
+      by true f x false h g =
+          let k = ap goingOf x in
+          let r = ltb-true 0 (riseOf (placeAt l2 (b * 8 + p))) f in
+          let l = ltb-false (goingIn (recordOf a b p)) (goingIn (recordOf (settled a o) b p)) h in
+          absurd (let w : ⊥ = omega (arith, trail a draw S L op D A b p hb hp, A b hb .ticks p hp e) in w)
+      by false f x true h g =
+          let k = ap goingOf x in
+          let r = ltb-false 0 (riseOf (placeAt l2 (b * 8 + p))) f in
+          let l = ltb-true (goingIn (recordOf a b p)) (goingIn (recordOf (settled a o) b p)) h in
+          absurd (let w : ⊥ = omega (arith, trail a draw S L op D A b p hb hp, A b hb .ticks p hp e) in w)
+      by false f x false h g =
+          let k = ap keptOf x in
+          omega (arith, unticked a draw S L op D A b p hb hp e)
 
   -- what step 3 takes from the kept tranches of one product
   deemed-on : (p : ℕ) → p < m → (s : Bool) → ticked a p ≡ s
-      → cond s 0 (column keptOf l3 p n) + cond s 0 (sumUpTo (λ b. deemedAt l2 b p) n) + 0 ≡ cond s 0 (keptOn a p) + 0 + 0
+      → cond s 0 (column keptOf l3 p n) + cond s 0 (sumUpTo (λ b. deemedAt a (calculated a draw .auction) b p) n) + 0 ≡ cond s 0 (keptOn a p) + 0 + 0
   deemed-on p hp true e = refl
   deemed-on p hp false e =
-      let x = sum-six (λ b. keptOf (placeAt l3 (b * 8 + p))) (λ b. deemedAt l2 b p) (λ b. 0) (λ b. keptIn (recordOf a b p)) (λ b. 0) (λ b. 0) n
+      let x = sum-six (λ b. keptOf (placeAt l3 (b * 8 + p))) (λ b. deemedAt a (calculated a draw .auction) b p) (λ b. 0) (λ b. keptIn (recordOf a b p)) (λ b. 0) (λ b. 0) n
       (λ b hb. omega (arith, deemed-here b p hb hp e)) in
       omega (arith, sum-zero n)
 
   -- the count of step 4 is those kept before on the other products, less those deemed bid in step 3, less those still kept there
-  pub round-outbid : CountsOutbid a draw (calculated a draw .auction) (calculated a draw .outbid)
+  pub round-outbid : CountsOutbid a (calculated a draw .auction) (calculated a draw .outbid)
   unfolding calculated
   round-outbid =
-      let x = sum-six (λ p. cond (ticked a p) 0 (column keptOf l3 p n)) (λ p. cond (ticked a p) 0 (sumUpTo (λ b. deemedAt l2 b p) n)) (λ p. 0)
+      let x = sum-six (λ p. cond (ticked a p) 0 (column keptOf l3 p n)) (λ p. cond (ticked a p) 0 (sumUpTo (λ b. deemedAt a (calculated a draw .auction) b p) n)) (λ p. 0)
       (λ p. cond (ticked a p) 0 (keptOn a p)) (λ p. 0) (λ p. 0) m (λ p hp. deemed-on p hp (ticked a p) refl) in
       let y = sum-ext (λ p. cond (ticked a p) 0 (keptOn (calculated a draw .auction) p))
       (λ p. cond (ticked a p) 0 (column keptOf (o .places) p n)) m

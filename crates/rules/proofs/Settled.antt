@@ -5,7 +5,7 @@ use mathlib.Core.List.{List}
 use Prim.Native.Nat.{ℕ, _+_, _*_, _-_, _/_, _%_, _^_, _≤_, _<_}
 use native.Mathlib.Omega.{arith}
 use native.Mathlib.Nat.{zero-div}
-use borrow.Author.Tests.{eqb-true, eqb-false, ne-eqb, eq-eqb, ltb-true, ltb-false, lt-ltb}
+use borrow.Author.Tests.{eqb-true, eqb-false, eq-eqb, ltb-true, ltb-false, lt-ltb}
 use lib.ListN.{length, getD, replicate, length-replicate, getD-replicate}
 use lib.Dec.{eqb, ltb}
 use Rattle.rules.specs.declared.Record.{Record}
@@ -19,11 +19,11 @@ use Rattle.rules.specs.Held.{nothing, goingIn, deniedIn, retainedIn, exi
 use Rattle.rules.specs.Bid.{bidIn, recordOf, priceAt, beforeAt, onProduct, slotOf, bidOn}
 use Rattle.rules.specs.Accept.{placeAt, heldOf, keptOf, column, rowOf}
 use Rattle.rules.specs.Round.{atRest, onward, atBottom, stops, settled}
-use Rattle.rules.specs.Standing.{keptOn, recordZero, slotStands, nothingKept, phaseStands}
+use Rattle.rules.specs.Standing.{keptOn, recordZero, slotStands, phaseStands}
 use Rattle.rules.proofs.Sums.{sum-ext, sum-le, sum-ge, sum-add}
 use Rattle.rules.proofs.Lists.{clash, both, all-give, list-at, list-long}
 use Rattle.rules.proofs.Signed.{above-zero}
-use Rattle.rules.proofs.Standing.{implied}
+use Rattle.rules.proofs.Standing.{later-open}
 use Rattle.rules.specs.Stands.{Stands, Long}
 use Rattle.rules.proofs.Places.{worthOf}
 use Rattle.rules.proofs.Made.{NoRecord}
@@ -177,7 +177,7 @@ module _ (a : Auction) (o : Outbid) where
         caps = λ b p hb hp. rw (at b p hb hp) (B .caps b p hb hp);
         no-bidder = λ k hk h. zero-past k hk (λ l. absurd (let z : ⊥ = omega arith in z));
         no-product = λ k hk h. zero-past k hk (λ l. h);
-        eligible = λ b hb. omega (arith, row-is b hb, B .eligible b hb);
+        eligible = λ b hb. omega (arith, row-is b hb, B .eligible b hb, S .eligible b hb);
         no-free = B .no-free;
         slots = slots-none ph rd pr be;
         phase = M .phase;
@@ -206,15 +206,10 @@ module _ (a : Auction) (o : Outbid) where
           fell = λ p hp t l. let x = next rest (S .limits) p hp (S .prices p hp .0) e .fell l in omega (arith, x);
           same = λ p hp q. next rest (S .limits) p hp (S .prices p hp .0) e .stayed (omega arith);
           none = λ p h l. let z = S .no-price p h l in next-none rest (S .limits) p l (z .0) (z .1);
-          phase = rw (ne-eqb (a .round + 1) 1 (λ q. omega (arith, S .some-round)))
-              (both (lt-ltb 0 (excess rest) h) (implied (eqb (a .round + 1) 2) (nothingKept rest) second));
+          phase = later-open (with bidsOpen (a .round + 1) prices befores) (λ q. omega (arith, S .some-round)) h
+              (λ q p hp. kept-is p hp ∙ B .first (omega arith) p hp);
         }
       where
-        second : eqb (a .round + 1) 2 ≡ true → nothingKept rest ≡ true
-        second e =
-            let r = eqb-true (a .round + 1) 2 e in
-            all-give (λ p. eqb (keptOn rest p) 0) m (λ p hp. eq-eqb _ 0 (kept-is p hp ∙ B .first (omega arith) p hp))
-
         within-by : (p : ℕ) → p < m → (s : Bool) → ltb (goal p) (held (rest .records) n p) ≡ s
             → (1 ≤ getD prices p 0) × (getD prices p 0 ≤ getD befores p 0) × (getD befores p 0 ≤ startOf (a .terms) p)
         within-by p hp true f =

@@ -3,7 +3,7 @@ use mathlib.Core.Path.{_≡_, refl}
 use mathlib.Core.Bool.{Bool, true, false, _&&_}
 use Prim.Native.Nat.{ℕ, _+_, _*_, _/_, _%_, _≤_, _<_}
 use native.Mathlib.Omega.{arith}
-use borrow.Author.Tests.{ltb-true, ltb-false, lt-ltb, le-ltb, le-leb, eqb-true, eq-eqb, ne-eqb}
+use borrow.Author.Tests.{ltb-true, ltb-false, lt-ltb, le-ltb, leb-true, leb-false, eqb-true, eq-eqb, ne-eqb}
 use lib.Dec.{eqb, ltb}
 use Rattle.rules.specs.declared.Record.{Record}
 use Rattle.rules.specs.declared.Terms.{Terms}
@@ -13,9 +13,9 @@ use Rattle.rules.specs.Held.{retainedIn, exitIn, heldIn, recordAt, held,
 use Rattle.rules.specs.Bid.{recordOf, priceAt, beforeAt}
 use Rattle.rules.specs.Standing.{implies, keptOn, isOpen, productStands, recordZero, recordWithin, recordStands, bidderStands, slotStands, openStands, stands}
 use Rattle.rules.proofs.Sums.{and-left, and-right}
-use Rattle.rules.proofs.Lists.{all-give, all-take}
+use Rattle.rules.proofs.Lists.{both, all-give, all-take}
 use Rattle.rules.proofs.Signed.{above-true, lt-above}
-use Rattle.rules.proofs.Tests.{told, shown}
+use Rattle.rules.proofs.Tests.{told, shown, sure-true}
 use Rattle.rules.specs.Stands.{Limits, Stands}
 
 -- ---- settings
@@ -130,7 +130,9 @@ module _ (a : Auction) (s : stands a ≡ true) where
     caps = λ b p hb hp. let x = record-of b p hb hp in search told;
     no-bidder = λ k l h. rw (le-ltb (k / 8) (a .terms .bidders) h) at (record-in k l);
     no-product = λ k l h. rw (le-ltb (k % 8) (a .terms .products) h, and-off) at (record-in k l);
-    eligible = λ b h. let x = rw (lt-ltb b (a .terms .bidders) h) at (bidder-in b (omega (arith, limits .bidders))) in search told;
+    eligible = λ b h.
+        let x = rw (lt-ltb b (a .terms .bidders) h) at (bidder-in b (omega (arith, limits .bidders))) in
+        omega (arith, leb-true);
     no-free = λ b h l. let x = rw (le-ltb b (a .terms .bidders) h) at (bidder-in b l) in search told;
     slots = slot-in;
     phase = search told;
@@ -164,6 +166,14 @@ module _ (a : Auction) (S : Stands a) (o : isOpen a ≡ true) where
 pub implied : (t u : Bool) → (t ≡ true → u ≡ true) → implies t u ≡ true
 implied true u h = h refl
 implied false u h = refl
+
+-- a later round with an excess is open, where in round 2 nothing is kept
+pub later-open : (a : Auction) → (a .round ≡ 1 → ⊥) → 0 < excess a
+    → (a .round ≡ 2 → (p : ℕ) → p < a .terms .products → keptOn a p ≡ 0) → openStands a ≡ true
+later-open a d h k =
+    let x = lt-ltb 0 (excess a) h in
+    rw (ne-eqb (a .round) 1 d) (both x (implied (eqb (a .round) 2) _ (λ e.
+    let y = all-give (λ p. eqb (keptOn a p) 0) (a .terms .products) (λ p l. eq-eqb _ 0 (k (eqb-true _ _ e) p l)) in search shown)))
 
 -- a record within its price, q and cap
 within-by : (p q cap : ℕ) (r : Record) → (0 < retainedIn r → (p < exitIn r) × (exitIn r ≤ q)) → (retainedIn r ≡ 0 → exitIn r ≡ 0)
@@ -199,7 +209,7 @@ module _ (a : Auction) (S : Stands a) where
   record-by k l false u e f = rw e (S .no-bidder k l (ltb-false _ _ e))
 
   bidder-by : (b : ℕ) → b < 32 → (t : Bool) → ltb b (a .terms .bidders) ≡ t → bidderStands a b ≡ true
-  bidder-by b l true e = rw e (le-leb _ _ (S .eligible b (ltb-true _ _ e)))
+  bidder-by b l true e = rw e (sure-true _ (λ n. omega (arith, S .eligible b (ltb-true _ _ e), leb-false)))
   bidder-by b l false e = rw e (eq-eqb _ _ (S .no-free b (ltb-false _ _ e) l))
 
   -- a standing state passes its test

@@ -2,22 +2,22 @@
 use mathlib.Core.Path.{_≡_, refl, sym, _∙_, ap, ap₂}
 use mathlib.Core.Bool.{Bool, true, false}
 use mathlib.Core.List.{List, [], _∷_, _++_}
-use Prim.Native.Nat.{ℕ, zero, suc, _+_, _-_, _*_, _/_, _%_, _≤_, _<_}
+use Prim.Native.Nat.{ℕ, zero, suc, _+_, _-_, _*_, _/_, _%_, _<_}
 use native.Mathlib.Omega.{arith}
 use native.Mathlib.Nat.{zero-mul, suc-mul, mul-le-mul-right}
-use borrow.Author.Tests.{eqb-true, eqb-false, ltb-true, ltb-false, ne-eqb}
+use borrow.Author.Tests.{eqb-true, eqb-false, ltb-true, ltb-false}
 use lib.ListN.{length, getD, length-append, List·getD-append}
 use lib.Seq.{getD-append-add}
 use lib.Pow.{shr-shr}
 use lib.Dec.{eqb, ltb}
 use Rattle.rules.specs.declared.Auction.{Auction}
-use Rattle.rules.specs.Layout.{bytesUpTo, headBytes, productBytes, bidderBytes, rowBytes, recordBytes, lineBytes, stored, read1, read2, read3, read4, recordFrom, lineFrom, termsFrom, loaded, allZero}
+use Rattle.rules.specs.Layout.{bytesUpTo, headBytes, productBytes, bidderBytes, rowBytes, recordBytes, lineBytes, stored, read1, read2, read3, read4, recordFrom, lineFrom, termsFrom, loaded}
 use Rattle.rules.specs.Card.{noLine}
 use Rattle.rules.specs.Settings.{item, noItem, row, noRow, targetOf, capOf, startOf, initialOf, percentOf, decrementOf}
 use Rattle.rules.specs.Held.{nothing, goingIn, deniedIn, retainedIn, exitIn, recordAt, freeOf}
 use Rattle.rules.specs.Bid.{bidIn, withdrawnIn, exitOn, priceAt, beforeAt}
 use Rattle.rules.specs.Units.{tranches}
-use Rattle.rules.proofs.Lists.{list-is, list-long, not-all}
+use Rattle.rules.proofs.Lists.{list-is, list-long}
 use Rattle.rules.specs.Stands.{Long}
 
 -- every field fits its bytes
@@ -284,12 +284,6 @@ module _ (a : Auction) (L : Long a) (F : Fits a) where
       let h = list-is _ nothing 256 (a .records) (L .records) (λ k h. sym (record-back k h)) in
       let b = list-is _ noLine 256 (a .bids) (L .bids) (λ k h. sym (line-back k h)) in
       rw (f, r, m, terms-back, ← x, ← y, ← e, ← h, ← b)
-
--- a state that is not issued is not all zero
-pub stored-some : (a : Auction) → 1 ≤ a .phase → a .phase < 256 → allZero (stored a) ≡ false
-stored-some a s h =
-    let e = one-at (head-part a) 0 0 (a .phase) (omega arith) (omega arith) h refl in
-    not-all (λ i. eqb (getD (stored a) i 0) 0) (length (stored a)) 0 (omega (arith, stored-long a)) (ne-eqb (getD (stored a) 0 0) 0 (λ z. omega arith))
 
 -- ---- any bytes
 

@@ -1,4 +1,5 @@
 -- "Where an answer is an enum, a definition gives this paper's number and values for each of the enum's cases." Assumes nothing.
+use mathlib.Core.Path.{_≡_}
 use mathlib.Core.Bool.{cond}
 use mathlib.Core.List.{List, [], _∷_}
 use Prim.Native.Nat.{ℕ, zero, suc}
@@ -29,6 +30,14 @@ pub record Outcome (A : Type 0) : Type 0 where
 
 abbrev pub outcome : {A : Type 0} → A → List ℕ → Outcome A
 outcome a s = record { answer = a; bytes = s }
+
+-- what a contract says by the call's definition d, "its answer and the final bytes it was lent": the answer is r, the bytes are s
+abbrev pub Leaves : {A : Type 0} → Outcome A → A → List ℕ → Type 0
+Leaves d r s = (r ≡ d .answer) × (s ≡ d .bytes)
+
+-- the same of a call that is lent bytes only to read, or none
+abbrev pub Gives : {A : Type 0} → A → A → Type 0
+Gives d r = r ≡ d
 
 -- the paper's number, 0 where nothing is refused, and the values that the answer itself holds
 pub record Said : Type 0 where

@@ -71,6 +71,10 @@ readCard s n =
     (cond (eqb (length s) (cardLength n)) (cond (filled s n) (bidOf s n) (readRefused 5)) (readRefused 4))
     (readRefused 29)
 
+-- the number of a read: 29, 4, 5, or 0
+abbrev pub readNumber : List ℕ → ℕ → ℕ
+readNumber s n = cond (countFits n) (cond (eqb (length s) (cardLength n)) (cond (filled s n) 0 5) 4) 29
+
 -- ---- writing
 
 abbrev pub putLine : List ℕ → ℕ → Line → List ℕ

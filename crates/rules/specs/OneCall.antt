@@ -3,21 +3,19 @@ use mathlib.Core.Path.{_≡_}
 use mathlib.Core.Bool.{true, false}
 use mathlib.Core.Logic.{_⊎_}
 use mathlib.Core.List.{List}
-use Prim.Native.Nat.{ℕ, _+_, _≤_, _<_, min}
-use lib.ListN.{length}
+use Prim.Native.Nat.{ℕ, _+_, _*_, _/_, _%_, _≤_, _<_, min}
+use lib.ListN.{length, getD}
 use Rattle.rules.specs.declared.Tranches.{Tranches}
 use Rattle.rules.specs.declared.Line.{Line}
 use Rattle.rules.specs.declared.Settings.{Settings}
 use Rattle.rules.specs.declared.Auction.{Auction}
-use Rattle.rules.specs.declared.Answer.the-variants as answer
-use Rattle.rules.specs.declared.Calculation.the-variants as calculation
 use Rattle.rules.specs.Count.{sumUpTo}
-use Rattle.rules.specs.Answers.{bidsOpen, stopped}
+use Rattle.rules.specs.Answers.{answerOf, calculationSaid, bidsOpen, stopped}
 use Rattle.rules.specs.Settings.{targetOf, startOf}
 use Rattle.rules.specs.Held.{goingIn, deniedIn, retainedIn, exitIn, held, freeOf, eligibility, excess}
 use Rattle.rules.specs.Bid.{hasFiled, slotOf, recordOf, priceAt, beforeAt}
 use Rattle.rules.specs.Cutback.{givenFor, revised}
-use Rattle.rules.specs.Layout.{loaded}
+use Rattle.rules.specs.Layout.{productsFrom, biddersFrom, rowsFrom, recordsFrom, bidsFrom, loaded}
 use Rattle.rules.specs.Standing.{isOpen, stands}
 use Rattle.rules.specs.Calls.{openCall, fileCall, calculateCall, cutbackCall, returnCall, writeCall}
 
@@ -27,14 +25,26 @@ pub record StandsIn (s : List ℕ) : Type 0 where
   pub standing : stands (loaded s) ≡ true
   pub bits : loaded s .filed < 4294967296
 
--- each refusal "changes no lent byte"
-pub record RefusedSame (s : List ℕ) (n : ℕ) : Type 0 where
-  pub opening : (x : Settings) → openCall s x .answer ≡ answer.Refused n → openCall s x .bytes ≡ s
-  pub filing : (c : List ℕ) → fileCall s c .answer ≡ answer.Refused n → fileCall s c .bytes ≡ s
-  pub calculating : (draw : List ℕ) → calculateCall s draw .answer ≡ calculation.Refused n → calculateCall s draw .bytes ≡ s
-  pub cutting : (targets caps : List Tranches) → cutbackCall s targets caps .answer ≡ answer.Refused n → cutbackCall s targets caps .bytes ≡ s
-  pub returning : returnCall s .answer ≡ answer.Refused n → returnCall s .bytes ≡ s
-  pub writing : (m b r : ℕ) (ls : List Line) → writeCall s m b r ls .answer ≡ answer.Refused n → writeCall s m b r ls .bytes ≡ s
+-- what is past the counts in use, and the slots not filed: every byte of it is 0
+pub record SpareZero (s : List ℕ) : Type 0 where
+  pub products : (p j : ℕ) → loaded s .terms .products ≤ p → p < 8 → j < 11 → getD s (p * 11 + productsFrom + j) 0 ≡ 0
+  pub bidders : (b j : ℕ) → loaded s .terms .bidders ≤ b → b < 32 → j < 4 → getD s (b * 4 + biddersFrom + j) 0 ≡ 0
+  pub rows : (i j : ℕ) → loaded s .terms .rows ≤ i → i < 8 → j < 4 → getD s (i * 4 + rowsFrom + j) 0 ≡ 0
+  pub records : (k j : ℕ) → k < 256 → (loaded s .terms .bidders ≤ k / 8) ⊎ (loaded s .terms .products ≤ k % 8) → j < 6
+      → getD s (k * 6 + recordsFrom + j) 0 ≡ 0
+  pub lines : (k j : ℕ) → k < 256 → (hasFiled (loaded s) (k / 8) ≡ false) ⊎ (loaded s .terms .products ≤ k % 8) → j < 6
+      → getD s (k * 6 + bidsFrom + j) 0 ≡ 0
+  pub marks : (b : ℕ) → loaded s .terms .bidders ≤ b → b < 32 → hasFiled (loaded s) b ≡ false
+
+-- each refusal, which is an answer with a number other than 0, "changes no lent byte"
+pub record RefusedSame (s : List ℕ) : Type 0 where
+  pub opening : (x : Settings) → 0 < answerOf (openCall s x .answer) .number → openCall s x .bytes ≡ s
+  pub filing : (c : List ℕ) → 0 < answerOf (fileCall s c .answer) .number → fileCall s c .bytes ≡ s
+  pub calculating : (draw : List ℕ) → 0 < calculationSaid (calculateCall s draw .answer) .number → calculateCall s draw .bytes ≡ s
+  pub cutting : (targets caps : List Tranches) → 0 < answerOf (cutbackCall s targets caps .answer) .number
+      → cutbackCall s targets caps .bytes ≡ s
+  pub returning : 0 < answerOf (returnCall s .answer) .number → returnCall s .bytes ≡ s
+  pub writing : (m b r : ℕ) (ls : List Line) → 0 < answerOf (writeCall s m b r ls .answer) .number → writeCall s m b r ls .bytes ≡ s
 
 -- from a to z bidder b has filed the lines ls, and no other bidder's slot has changed
 pub record FiledOnly (a z : Auction) (b : ℕ) (ls : List Line) : Type 0 where

@@ -112,16 +112,16 @@ All (c ∷ cs) = Holds c × All cs
 
 -- ---- the states that the rows go through
 
-abbrev S : Terms
+abbrev pub S : Terms
 S = terms (item 3 3 1000) (item 2 2 800) 5
 
-abbrev T : Terms
+abbrev pub T : Terms
 T = terms (item 2 2 1000) (item 2 2 1000) 4
 
-abbrev s1 : Auction
+abbrev pub s1 : Auction
 s1 = state S bidsOpen 2 970 800 1000 800 (book (g 2) (g 0) (g 2) (g 1) (g 1) (g 1)) 0
 
-abbrev s2 : Auction
+abbrev pub s2 : Auction
 s2 = state S bidsOpen 3 970 776 1000 800 (book (g 1) (g 0) (g 1) (g 2) (entry 0 0 1 980) (g 1)) 0
 
 abbrev s3 : Auction
@@ -130,10 +130,10 @@ s3 = state S closed 3 970 776 1000 800 (book (g 1) (g 0) (g 1) (g 1) (entry 0 0 
 abbrev s3′ : Auction
 s3′ = state S closed 3 970 776 1000 800 (book (g 1) (g 0) (g 1) (entry 1 0 1 790) (entry 0 0 1 980) (g 0)) 0
 
-abbrev t1 : Auction
+abbrev pub t1 : Auction
 t1 = state T bidsOpen 2 970 970 1000 1000 (book (g 2) (g 0) (g 1) (g 1) (g 0) (g 2)) 0
 
-abbrev t2 : Auction
+abbrev pub t2 : Auction
 t2 = state T bidsOpen 3 970 941 1000 970 (book (entry 0 1 0 0) (g 1) (g 1) (g 1) (g 0) (g 2)) 0
 
 abbrev t3 : Auction

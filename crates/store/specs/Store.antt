@@ -1,7 +1,9 @@
 -- What `load` says of the state, and the name beside the file's. Assumes nothing.
 use Prim.Native.Nat.{ℕ}
 use mathlib.Core.Path.{_≡_}
+use mathlib.Core.Bool.{cond}
 use mathlib.Core.List.{List, [], _∷_, _++_}
+use lib.Dec.{eqb}
 use Rattle.store.specs.declared.Loaded.{Loaded}
 use Rattle.store.specs.declared.Loaded.the-variants.{Missing, Whole, Wrong, Unread}
 
@@ -11,6 +13,10 @@ Kept Missing before after = after ≡ before
 Kept Whole before after = Unit {0}
 Kept Wrong before after = after ≡ before
 Kept (Unread why) before after = after ≡ before
+
+-- a file is a state's exactly where it has as many bytes as a state
+abbrev pub ofLength : ℕ → Loaded
+ofLength n = cond (eqb n 3333) Whole Wrong
 
 -- `.new`, and a path with it at its end
 abbrev pub dotNew : List ℕ

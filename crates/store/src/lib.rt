@@ -3,7 +3,7 @@ ghost use mathlib.Core.Path.{_≡_};
 ghost use Rattle.io.specs.Counts.{Counts};
 ghost use Prim.Native.Nat.{_<_};
 ghost use lib.ListN.{getD, take};
-ghost use Rattle.store.specs.Store.{Kept, dotNew, newName};
+ghost use Rattle.store.specs.Store.{Kept, ofLength, dotNew, newName};
 
 // What a file held.
 pub enum Loaded {
@@ -60,6 +60,17 @@ fn copy_state(room: &[u8; 3334], state: &mut [u8; 3333]) {
     }
 }
 
+// A file of so many bytes is a state's, or has another length.
+fn taken(n: usize, room: &[u8; 3334], state: &mut [u8; 3333]) -> Loaded
+    ensures { λ r. ⌜ (r ≡ ofLength n) × Kept r (now (state .entry)) (now (state .exit)) ⌝ }
+{
+    if n == 3333 {
+        copy_state(room, state);
+        return Loaded::Whole;
+    }
+    Loaded::Wrong
+}
+
 // The room has one byte more than a state, so that a longer file is told from a whole one.
 pub fn load(path: &[u8], state: &mut [u8; 3333]) -> Loaded
     ensures { λ r. ⌜ Kept r (now (state .entry)) (now (state .exit)) ⌝ }
@@ -78,14 +89,7 @@ pub fn load(path: &[u8], state: &mut [u8; 3333]) -> Loaded
     libc::close(fd);
     match filled {
         Filled::Failed => Loaded::Unread(why),
-        Filled::Bytes(n) => {
-            if n == 3333 {
-                copy_state(&room, state);
-                Loaded::Whole
-            } else {
-                Loaded::Wrong
-            }
-        }
+        Filled::Bytes(n) => taken(n, &room, state),
     }
 }
 

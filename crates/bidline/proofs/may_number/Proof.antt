@@ -1,6 +1,7 @@
 use native.Mathlib.Omega.{arith}
 use borrow.Author.Needs.{needs}
 use borrow.Author.Tests.{lt-ltb, le-ltb}
+use Rattle.rules.proofs.Tests.{said, is-eqb}
 use Rattle.bidline.proofs.may_number.Statement.{statement}
 use Rattle.bidline.proofs.may_number.Tie as tie
 
@@ -14,6 +15,7 @@ returns-2 : tie.Need-returns-2
 returns-2 c =
     let i = c .before .before .increase in
     rw (← i .ensures .0, le-ltb 0 (i .result) (omega arith))
+    (is-eqb _ (c .before .before .before .args .l .priority) 0 (λ h. omega (arith, said)) (λ h e. omega (arith, said)))
 
 pub may-number-spec : {M : Type 1} → statement M
 may-number-spec = tie.close (tie.spec increase-requires returns returns-2)

@@ -1,10 +1,11 @@
 use Rattle.rules.specs.declared.Count.the-variants.{ToFile, Refused}
+use Rattle.console.proofs.Counting.{counted-few, counted}
 use Rattle.console.proofs.Fitting.{few}
 use native.Mathlib.Omega.{arith}
 use Rattle.console.proofs.Answering.{refuses-with, answers-with}
 use Rattle.rules.specs.Calls.{openNumberOf, toFile, countCall}
 use denote.Ref.{now}
-use mathlib.Core.Path.{ap}
+use mathlib.Core.Path.{_∙_, ap}
 use Rattle.numbers.proofs.StateLaws.{Stood, stood-by}
 use borrow.Author.Needs.{needs}
 use Rattle.console.proofs.count.Statement.{statement}
@@ -29,13 +30,16 @@ cast-still c = search needs
 sub-still : tie.Need-sub-still
 sub-still c =
     let d = c .before .before .before in
-    rw (c .before .before .load .ensures) (few _ (stood d) (record { small = λ i. d .before .before .shared-slice-known .given i .fits }))
+    counted-few (c .before .before .load .result) _ _ (omega arith) (omega arith)
+    (rw (c .before .before .load .ensures) (few _ (stood d) (record { small = λ i. d .before .before .shared-slice-known .given i .fits })))
 
 returns-2 : tie.Need-returns-2
 unfolding countCall
 returns-2 c =
     let d = c .before .before .before in
-    answers-with _ _ _ Refused _ (d .before .count-number .ensures) (d .if1 .left) (ap (λ a. ToFile (toFile a)) (c .before .before .load .ensures))
+    answers-with _ _ _ Refused _ (d .before .count-number .ensures) (d .if1 .left)
+    (ap ToFile (counted (c .before .before .load .result) _ _ (omega arith) (omega arith))
+    ∙ ap (λ a. ToFile (toFile a)) (c .before .before .load .ensures))
 
 pub count-spec : {M : Type 1} → statement M
 count-spec =

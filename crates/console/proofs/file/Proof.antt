@@ -1,9 +1,10 @@
 use Rattle.rules.specs.Layout.{stored}
 use native.Mathlib.Omega.{arith}
 use Rattle.console.proofs.Answering.{refuses, does}
-use Rattle.rules.specs.Calls.{cardNumber, afterCard, fileCall}
+use Rattle.console.proofs.Largest.{file-most}
+use Rattle.rules.specs.Calls.{cardNumber, fileNumber, afterCard, fileCall}
 use denote.Ref.{now}
-use mathlib.Core.Path.{_∙_, ap}
+use mathlib.Core.Path.{_≡_, refl, _∙_, ap}
 use Rattle.numbers.proofs.StateLaws.{Stood, stood-by}
 use borrow.Author.Needs.{needs}
 use Rattle.console.proofs.file.Statement.{statement}
@@ -17,11 +18,18 @@ same-length c = search needs
 
 returns : tie.Need-returns
 unfolding fileCall
-returns c = refuses _ _ _ _ (c .before .file-number .ensures) (c .if1 .taken)
+returns c =
+    let a = c .before .before .before .before .before .args in
+    refuses _ (fileNumber (now (a .s)) (now (a .card))) _ _
+    (omega (arith, c .before .file-number .ensures, file-most (now (a .s)) (now (a .card)))) (omega (arith, c .if1 .taken))
+
+none : (c : tie.Else1) → let a = c .before .before .before .before .before .args in 0 ≡ fileNumber (now (a .s)) (now (a .card))
+none c =
+    let a = c .before .before .before .before .before .args in
+    omega (arith, c .before .file-number .ensures, c .if1 .left, file-most (now (a .s)) (now (a .card)))
 
 stood : (c : tie.Else1) → Stood (now (c .before .before .before .before .before .args .s))
-stood c =
-    stood-by _ 3 (cardNumber (now (c .before .before .before .before .before .args .card))) (omega arith) _ (c .before .file-number .ensures) (c .if1 .left) .0
+stood c = stood-by _ 3 (cardNumber (now (c .before .before .before .before .before .args .card))) (omega arith) 0 (none c) refl .0
 
 load-requires : tie.Need-load-requires
 load-requires c κs = stood (c .before) .long
@@ -40,7 +48,7 @@ unfolding fileCall
 returns-2 c =
     let e = c .before .before .before .before in
     let d = e .before .before .before in
-    does _ _ _ _ _ (d .before .file-number .ensures) (d .if1 .left)
+    does 0 _ _ _ _ (none d) refl
     (c .before .before .store .ensures ∙ ap stored (e .after-card .ensures ∙ ap (afterCard (now (d .before .before .before .before .before .args .card))) (e .before .load .ensures)))
 
 pub file-spec : {M : Type 1} → statement M

@@ -6,7 +6,7 @@ use Rattle.console.proofs.Answering.{refuses-with, answers-with}
 use Rattle.rules.specs.Calls.{bidderNumber, reportCall}
 use denote.Ref.{now}
 use Rattle.rules.specs.Layout.{loaded}
-use mathlib.Core.Path.{_≡_, _∙_, ap}
+use mathlib.Core.Path.{_≡_, _∙_, ap₂}
 use borrow.Author.Needs.{needs}
 use Rattle.console.proofs.report.Statement.{statement}
 use Rattle.console.proofs.report.Tie as tie
@@ -37,7 +37,7 @@ unfolding reportCall
 returns-2 c =
     let d = c .before .before in
     answers-with _ _ _ reportRefused _ (d .before .report-number .ensures) (d .if1 .left)
-    (c .report-on .ensures ∙ ap (λ a. reportOn a (d .before .before .before .args .bidder)) (c .before .load .ensures))
+    (c .report-on .ensures ∙ ap₂ reportOn (c .before .load .ensures) (omega arith))
 
 pub report-spec : {M : Type 1} → statement M
 report-spec =

@@ -34,7 +34,7 @@ returns c =
     let a = l .before .args in
     let i = l .loop .i in
     let h : ℕ → Bool = λ i. eqb (drawn (a .order .now) i) (a .b) in
-    let e = first-here h i (l .loop .inv .1) (eq-eqb _ _ (c .if1 .taken)) in
+    let e = first-here h i (l .loop .inv .1) (eq-eqb (drawn (a .order .now) i) (a .b) (omega arith)) in
     sym (ap isAt (first-stays h (suc i) i (a .bidders) e (search needs)))
 
 add-i : tie.Need-add-i Inv-loop μ-loop
@@ -48,7 +48,9 @@ loop-again c =
     let l = c .before .before .before in
     let a = l .before .args in
     let h : ℕ → Bool = λ i. eqb (drawn (a .order .now) i) (a .b) in
-    (search needs, rw add-one (first-not h (l .loop .i) (l .loop .inv .1) (ne-eqb _ _ (c .if1 .left))))
+    let i = l .loop .i in
+    let n = ne-eqb (drawn (a .order .now) i) (a .b) (λ e. c .if1 .left (omega arith)) in
+    (search needs, rw add-one (first-not h i (l .loop .inv .1) n))
 
 returns-2 : tie.Need-returns-2 Inv-loop μ-loop
 returns-2 c =

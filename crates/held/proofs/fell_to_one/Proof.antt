@@ -1,5 +1,8 @@
+use native.Mathlib.Omega.{arith}
 use borrow.Author.Needs.{needs}
 use borrow.Author.Tests.{not-true, not-false}
+use Rattle.rules.specs.Bid.{priceAt}
+use Rattle.rules.proofs.Tests.{said, is-eqb}
 use Rattle.held.proofs.fell_to_one.Statement.{statement}
 use Rattle.held.proofs.fell_to_one.Tie as tie
 
@@ -16,7 +19,10 @@ element-copy-out-result : tie.Need-element-copy-out-result
 element-copy-out-result c = search needs
 
 returns-2 : tie.Need-returns-2
-returns-2 c = rw (← c .before .before .ticked .ensures, not-false (c .before .before .ticked .result) (c .before .if1 .left))
+returns-2 c =
+    let a = c .before .before .before .args in
+    rw (← c .before .before .ticked .ensures, not-false (c .before .before .ticked .result) (c .before .if1 .left))
+    (is-eqb _ (priceAt (a .t1) (a .p)) 1 (λ h. omega (arith, said)) (λ h e. omega (arith, said)))
 
 pub fell-to-one-spec : {M : Type 1} → statement M
 fell-to-one-spec =

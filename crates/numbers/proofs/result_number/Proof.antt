@@ -1,5 +1,6 @@
-use mathlib.Core.Path.{_≡_}
+use mathlib.Core.Path.{_≡_, refl}
 use Prim.Native.Nat.{ℕ}
+use native.Mathlib.Omega.{arith}
 use borrow.Author.Tests.{eq-eqb, ne-eqb}
 use Rattle.rules.specs.Calls.{closedNumber, resultNumber}
 use denote.Ref.{now}
@@ -29,10 +30,10 @@ answered : (c : tie.After-load) (n : ℕ) → n ≡ closedNumber (c .load .resul
 answered c n h = said _ (stood (c .before)) _ (c .load .ensures) 16 closedNumber n h
 
 returns-3 : tie.Need-returns-3
-returns-3 c = answered (c .before .before) 0 (search eq-eqb)
+returns-3 c = answered (c .before .before) 0 (rw (eq-eqb (c .before .before .load .result .phase) 2 (omega arith)) refl)
 
 returns-4 : tie.Need-returns-4
-returns-4 c = answered (c .before .before) 16 (search ne-eqb)
+returns-4 c = answered (c .before .before) 16 (rw (ne-eqb (c .before .before .load .result .phase) 2 (omega arith)) refl)
 
 pub result-number-spec : {M : Type 1} → statement M
 result-number-spec =

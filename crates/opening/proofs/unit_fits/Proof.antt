@@ -1,5 +1,9 @@
+use native.Mathlib.Omega.{arith}
 use borrow.Author.Tests.{lt-ltb, le-ltb}
 use borrow.Author.Needs.{needs}
+use Rattle.rules.specs.Settings.{productAt}
+use Rattle.rules.specs.Units.{unitNumber, unitOf}
+use Rattle.rules.proofs.Tests.{said, is-eqb}
 use Rattle.opening.proofs.unit_fits.Statement.{statement}
 use Rattle.opening.proofs.unit_fits.Tie as tie
 
@@ -22,7 +26,11 @@ number-requires : tie.Need-number-requires
 number-requires c κs = search needs
 
 returns-2 : tie.Need-returns-2
-returns-2 c = rw (lt-ltb _ _ (c .before .before .before .if1 .left), c .before .unit .ensures .0, c .number .ensures .0)
+returns-2 c =
+    let d = c .before .before .before in
+    let a = d .before .args in
+    rw (lt-ltb _ _ (d .if1 .left))
+    (is-eqb _ (unitOf (productAt (a .t1) (a .p) .start)) (unitNumber (a .t1 .unit)) (λ h. omega (arith, said)) (λ h e. omega (arith, said)))
 
 pub unit-fits-spec : {M : Type 1} → statement M
 unit-fits-spec =

@@ -1,6 +1,8 @@
 use native.Mathlib.Omega.{arith}
 use borrow.Author.Tests.{lt-ltb, eq-eqb, ne-eqb}
 use borrow.Author.Needs.{needs}
+use Rattle.rules.specs.Held.{excess}
+use Rattle.rules.proofs.Tests.{said, is-eqb}
 use Rattle.phases.proofs.end_stands.Statement.{statement}
 use Rattle.phases.proofs.end_stands.Tie as tie
 
@@ -14,11 +16,16 @@ returns-2 : tie.Need-returns-2
 returns-2 c =
     let d = c .before in
     rw (eq-eqb _ _ (d .before .before .if1 .left), eq-eqb _ _ (d .if2 .taken), c .excess .ensures .0)
+    (is-eqb _ (excess (d .before .before .before .before .args .a)) 0 (λ h. omega (arith, said)) (λ h e. omega (arith, said)))
 
 returns-3 : tie.Need-returns-3
 returns-3 c =
     let d = c .before .before in
-    rw (eq-eqb _ _ (d .before .before .if1 .left), ne-eqb _ _ (d .if2 .left), ne-eqb _ _ (c .if3 .taken))
+    rw (
+      eq-eqb _ _ (d .before .before .if1 .left),
+      ne-eqb _ _ (d .if2 .left),
+      ne-eqb (d .before .before .before .before .args .a .phase) 3 (λ e. c .if3 .taken (omega arith)),
+    )
 
 excess-requires-2 : tie.Need-excess-requires-2
 excess-requires-2 c κs = search needs
@@ -30,7 +37,7 @@ returns-4 c =
     rw (
       eq-eqb _ _ (d .before .before .if1 .left),
       ne-eqb _ _ (d .if2 .left),
-      eq-eqb _ _ (e .if3 .left),
+      eq-eqb (d .before .before .before .before .args .a .phase) 3 (omega arith),
       ← c .before .excess2 .ensures .0,
       c .if4 .taken,
     )
@@ -47,11 +54,11 @@ returns-5 c =
     rw (
       eq-eqb _ _ (d .before .before .if1 .left),
       ne-eqb _ _ (d .if2 .left),
-      eq-eqb _ _ (e .if3 .left),
+      eq-eqb (d .before .before .before .before .args .a .phase) 3 (omega arith),
       ← x .ensures .0,
       lt-ltb 0 (x .result) (omega arith),
-      c .stops .ensures,
     )
+    (c .stops .ensures)
 
 pub end-stands-spec : {M : Type 1} → statement M
 end-stands-spec =

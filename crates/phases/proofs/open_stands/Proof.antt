@@ -1,5 +1,6 @@
 use mathlib.Core.Path.{_≡_, refl}
 use mathlib.Core.Bool.{Bool, true, false, _&&_}
+use native.Mathlib.Omega.{arith}
 use borrow.Author.Tests.{eq-eqb, ne-eqb}
 use borrow.Author.Needs.{needs}
 use Rattle.phases.proofs.open_stands.Statement.{statement}
@@ -11,7 +12,12 @@ returns c = rw (eq-eqb _ _ (c .before .if1 .taken), c .as-opened .ensures)
 returns-2 : tie.Need-returns-2
 returns-2 c =
     let d = c .before .before .before in
-    rw (ne-eqb _ _ (d .before .if1 .left), eq-eqb _ _ (c .before .if2 .taken), d .excess .ensures .0, c .nothing-kept .ensures)
+    rw (
+      ne-eqb _ _ (d .before .if1 .left),
+      eq-eqb (d .before .before .before .args .a .round) 2 (omega arith),
+      d .excess .ensures .0,
+      c .nothing-kept .ensures,
+    )
 
 and-true : (t : Bool) → t ≡ t && true
 and-true true = refl
@@ -20,7 +26,12 @@ and-true false = refl
 returns-3 : tie.Need-returns-3
 returns-3 c =
     let d = c .before .before in
-    rw (ne-eqb _ _ (d .before .if1 .left), ne-eqb _ _ (c .if2 .left), ← d .excess .ensures .0) (and-true _)
+    rw (
+      ne-eqb _ _ (d .before .if1 .left),
+      ne-eqb (d .before .before .before .args .a .round) 2 (λ e. c .if2 .left (omega arith)),
+      ← d .excess .ensures .0,
+    )
+    (and-true _)
 
 pub open-stands-spec : {M : Type 1} → statement M
 open-stands-spec =

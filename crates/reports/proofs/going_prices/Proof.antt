@@ -13,32 +13,8 @@ Inv-loop a unit prices₀ p₀ prices p = Filled (λ p. quote (a .terms .unit) (
 abbrev μ-loop : tie.MeasureT-loop
 μ-loop a unit prices₀ p₀ prices p = 8 - p
 
-no-quotes-requires : tie.Need-no-quotes-requires Inv-loop μ-loop
-no-quotes-requires c κs = search needs
-
 loop-holds : tie.Need-loop-holds Inv-loop μ-loop
 loop-holds c = none-filled _ (search needs)
-
-mul-of : tie.Need-mul-of Inv-loop μ-loop
-mul-of c = search needs
-
-element-copy-out-of : tie.Need-element-copy-out-of Inv-loop μ-loop
-element-copy-out-of c = search needs
-
-of-requires : tie.Need-of-requires Inv-loop μ-loop
-of-requires c κs = search needs
-
-mul-prices : tie.Need-mul-prices Inv-loop μ-loop
-mul-prices c = search needs
-
-array-set-from-prices : tie.Need-array-set-from-prices Inv-loop μ-loop
-array-set-from-prices c = search needs
-
-add-p : tie.Need-add-p Inv-loop μ-loop
-add-p c = search needs
-
-loop-less : tie.Need-loop-less Inv-loop μ-loop
-loop-less c = search needs
 
 loop-again : tie.Need-loop-again Inv-loop μ-loop
 loop-again c = one-more _ (c .before .before .before .loop .inv) (omega arith) (λ i. record { price = c .of .ensures i })
@@ -52,14 +28,14 @@ going-prices-spec =
     (tie.spec
     Inv-loop
     μ-loop
-    no-quotes-requires
+    (λ c κs. search needs)
     loop-holds
-    mul-of
-    element-copy-out-of
-    of-requires
-    mul-prices
-    array-set-from-prices
-    add-p
-    loop-less
+    (λ c. search needs)
+    (λ c. search needs)
+    (λ c κs. search needs)
+    (λ c. search needs)
+    (λ c. search needs)
+    (λ c. search needs)
+    (λ c. search needs)
     loop-again
     returns)

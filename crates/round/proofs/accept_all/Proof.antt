@@ -25,53 +25,8 @@ Inv-loop a ticks all₀ k₀ all k =
 abbrev μ-loop : tie.MeasureT-loop
 μ-loop a ticks all₀ k₀ all k = 256 - k
 
-nowhere-requires : tie.Need-nowhere-requires Inv-loop μ-loop
-nowhere-requires c κs = search needs
-
 loop-holds : tie.Need-loop-holds Inv-loop μ-loop
 loop-holds c = (search needs, (length-replicate 256 (c .nowhere .result), λ j l. absurd (let z : ⊥ = omega arith in z)))
-
-mul-r : tie.Need-mul-r Inv-loop μ-loop
-mul-r c = search needs
-
-element-copy-out-r : tie.Need-element-copy-out-r Inv-loop μ-loop
-element-copy-out-r c = search needs
-
-mul-l : tie.Need-mul-l Inv-loop μ-loop
-mul-l c = search needs
-
-element-copy-out-l : tie.Need-element-copy-out-l Inv-loop μ-loop
-element-copy-out-l c = search needs
-
-filed-requires : tie.Need-filed-requires Inv-loop μ-loop
-filed-requires c κs = search needs
-
-array-read-bid-of : tie.Need-array-read-bid-of Inv-loop μ-loop
-array-read-bid-of c = search needs
-
-mul-bid-of : tie.Need-mul-bid-of Inv-loop μ-loop
-mul-bid-of c = search needs
-
-element-copy-out-bid-of : tie.Need-element-copy-out-bid-of Inv-loop μ-loop
-element-copy-out-bid-of c = search needs
-
-bid-of-requires : tie.Need-bid-of-requires Inv-loop μ-loop
-bid-of-requires c κs = search needs
-
-accept-requires : tie.Need-accept-requires Inv-loop μ-loop
-accept-requires c κs = search needs
-
-mul-all : tie.Need-mul-all Inv-loop μ-loop
-mul-all c = search needs
-
-array-set-from-all : tie.Need-array-set-from-all Inv-loop μ-loop
-array-set-from-all c = search needs
-
-add-k : tie.Need-add-k Inv-loop μ-loop
-add-k c = search needs
-
-loop-less : tie.Need-loop-less Inv-loop μ-loop
-loop-less c = search needs
 
 loop-again : tie.Need-loop-again Inv-loop μ-loop
 loop-again c =
@@ -108,21 +63,21 @@ accept-all-spec =
     (tie.spec
     Inv-loop
     μ-loop
-    nowhere-requires
+    (λ c κs. search needs)
     loop-holds
-    mul-r
-    element-copy-out-r
-    mul-l
-    element-copy-out-l
-    filed-requires
-    array-read-bid-of
-    mul-bid-of
-    element-copy-out-bid-of
-    bid-of-requires
-    accept-requires
-    mul-all
-    array-set-from-all
-    add-k
-    loop-less
+    (λ c. search needs)
+    (λ c. search needs)
+    (λ c. search needs)
+    (λ c. search needs)
+    (λ c κs. search needs)
+    (λ c. search needs)
+    (λ c. search needs)
+    (λ c. search needs)
+    (λ c κs. search needs)
+    (λ c κs. search needs)
+    (λ c. search needs)
+    (λ c. search needs)
+    (λ c. search needs)
+    (λ c. search needs)
     loop-again
     returns)

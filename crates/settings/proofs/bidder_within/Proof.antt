@@ -1,5 +1,8 @@
+use native.Mathlib.Omega.{arith}
 use borrow.Author.Tests.{lt-ltb, le-ltb}
 use borrow.Author.Needs.{needs}
+use Rattle.rules.specs.Settings.{initialOf}
+use Rattle.rules.proofs.Tests.{said, is-eqb}
 use Rattle.settings.proofs.bidder_within.Statement.{statement}
 use Rattle.settings.proofs.bidder_within.Tie as tie
 
@@ -13,7 +16,10 @@ cast-if1 : tie.Need-cast-if1
 cast-if1 c = search needs
 
 returns : tie.Need-returns
-returns c = search (le-ltb)
+returns c =
+    let a = c .before .before .before .args in
+    rw (le-ltb _ _ (c .before .if1 .taken))
+    (is-eqb _ (initialOf (a .t1) (a .b)) 0 (λ h. omega (arith, said)) (λ h e. omega (arith, said)))
 
 is-between16-requires : tie.Need-is-between16-requires
 is-between16-requires c κs = search needs

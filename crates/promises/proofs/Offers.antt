@@ -1,0 +1,304 @@
+-- What is held had been offered, and at no more than the price paid. Assumes nothing.
+use mathlib.Core.Path.{_≡_, refl, sym, _∙_, ap, subst}
+use mathlib.Core.Bool.{Bool, true, false, _&&_, cond}
+use mathlib.Core.List.{List}
+use Prim.Native.Nat.{ℕ, zero, suc, _+_, _*_, _%_, _≤_, _<_}
+use native.Mathlib.Omega.{arith}
+use borrow.Author.Tests.{eqb-true, eqb-false, ltb-true, ltb-false, lt-ltb}
+use lib.Dec.{eqb, ltb}
+use Rattle.rules.specs.declared.Tranches.{Tranches}
+use Rattle.rules.specs.declared.Place.{Place}
+use Rattle.rules.specs.declared.Auction.{Auction}
+use Rattle.rules.specs.Answers.{closed}
+use Rattle.rules.specs.Settings.{targetOf}
+use Rattle.rules.specs.Held.{goingIn, deniedIn, retainedIn, exitIn, held, standingOf, aboveZero, ticked, freeOf, excess}
+use Rattle.rules.specs.Bid.{withdrawnIn, recordOf, priceAt, beforeAt, bidOn}
+use Rattle.rules.specs.Accept.{placeAt, keptOf, deem}
+use Rattle.rules.specs.Outbid.{deemIf, deemedUpTo}
+use Rattle.rules.specs.Round.{drawFits, afterStep2, afterStep4, calculated}
+use Rattle.rules.specs.Report.{highestIn, highestUpTo, paidOn}
+use Rattle.rules.specs.Cutback.{mayCut, revised, cutBack}
+use Rattle.rules.specs.Standing.{isOpen, openStands}
+use Rattle.rules.specs.Stands.{Stands, Long}
+use Rattle.rules.proofs.Sums.{sum-ge, and-right}
+use Rattle.rules.proofs.Signed.{above-zero}
+use Rattle.rules.proofs.Places.{goingOf, deniedOf}
+use Rattle.rules.proofs.Outbidding.{deemed-exact}
+use Rattle.rules.proofs.Made.{AllAccepted}
+use Rattle.rules.proofs.Booked.{Booked, kept-end, trail, unticked, fresh, booked}
+use Rattle.rules.proofs.Settled.{settled-held, settled-record}
+use Rattle.rules.proofs.Round.{round-terms, round-prices}
+use Rattle.rules.proofs.Cutback.{cut-only, cut-price}
+use Rattle.promises.specs.Runs.{Round}
+use Rattle.promises.specs.Offered.{OnOffer, increaseLeft, offeringBy, offering}
+
+-- what bidder b holds of product p in the auction a is on offer in o
+pub record Backed (o : OnOffer) (a : Auction) (b p : ℕ) : Type 0 where
+  pub going : goingIn (recordOf a b p) ≤ o .bid
+  pub denied : deniedIn (recordOf a b p) ≤ o .switched
+  pub retained : retainedIn (recordOf a b p) ≤ o .withdrawn
+  pub own : o .bid + o .switched + o .withdrawn ≤ o .ever
+  pub price : 0 < goingIn (recordOf a b p)
+      → (o .price ≤ beforeAt a p) × (held (a .records) (a .terms .bidders) p ≤ targetOf (a .terms) p → o .price ≤ priceAt a p)
+  pub before : 0 < deniedIn (recordOf a b p) → o .before ≤ beforeAt a p
+  pub exit : 0 < retainedIn (recordOf a b p) → o .exit ≡ exitIn (recordOf a b p)
+
+-- ---- one round
+
+module _ (a : Auction) (draw : List ℕ) (S : Stands a) (L : Long a) (op : isOpen a ≡ true)
+    (D : drawFits (a .terms .bidders) draw ≡ true) (A : AllAccepted a)
+    (b p : ℕ) (hb : b < a .terms .bidders) (hp : p < a .terms .products) where
+  abbrev r : Round
+  r = record { auction = a; draw = draw }
+
+  abbrev n : ℕ
+  n = a .terms .bidders
+
+  abbrev z : Auction
+  z = calculated a draw .auction
+
+  abbrev at2 : Place
+  at2 = placeAt (afterStep2 a draw .places) (b * 8 + p)
+
+  abbrev at3 : Place
+  at3 = placeAt (deemedUpTo (ticked a) (afterStep2 a draw .places) (n * 8)) (b * 8 + p)
+
+  abbrev at4 : Place
+  at4 = placeAt (afterStep4 a draw (afterStep2 a draw .places) .places) (b * 8 + p)
+
+  B : Booked a (afterStep4 a draw (afterStep2 a draw .places))
+  B = booked a draw S L op D A
+
+  record-is : recordOf z b p ≡ at4 .holds
+  unfolding calculated
+  record-is = settled-record a _ S B b p hb hp
+
+  -- what is then retained was retained before or is withdrawn in this round
+  pub round-retained : retainedIn (recordOf (calculated a draw .auction) b p) ≤ retainedIn (recordOf a b p) + withdrawnIn (bidOn a b p)
+  round-retained = let e = ap retainedIn record-is in omega (arith, trail a draw S L op D A b p hb hp)
+
+  -- step 3 at this place
+  deemed-is : at3 ≡ deemIf (ticked a p) at2
+  deemed-is =
+      let e : (b * 8 + p) % 8 ≡ p = omega (arith, S .limits .products) in
+      deemed-exact (ticked a) (afterStep2 a draw .places) (n * 8) (b * 8 + p) (kept-end a draw S L op D A .keepable .long)
+      (omega (arith, S .limits .products))
+      ∙ ap (λ q. deemIf (ticked a q) at2) e
+
+  -- what is kept at the end is kept where held equals target
+  met : 0 < keptOf at4 → held (z .records) n p ≡ targetOf (a .terms) p
+  unfolding calculated
+  met h =
+      let x = sum-ge (λ b. keptOf (placeAt (afterStep4 a draw (afterStep2 a draw .places) .places) (b * 8 + p))) n b hb in
+      settled-held a _ S B p hp ∙ B .kept p hp (omega arith) .1
+
+  -- this round's price is at most the next price before, and the next price where the product is not above target
+  price-for : (s u : Bool) → isOpen z ≡ s → ltb (targetOf (a .terms) p) (held (z .records) n p) ≡ u
+      → (priceAt a p ≤ beforeAt z p) × (held (z .records) n p ≤ targetOf (a .terms) p → priceAt a p ≤ priceAt z p)
+  price-for false u e f =
+      let x = round-prices a draw S L op D A p hp .ended e in
+      let y = S .prices p hp in
+      (omega (arith, x, y), λ h. omega (arith, x))
+  price-for true true e f =
+      let l = ltb-true _ _ f in
+      let x = round-prices a draw S L op D A p hp .fell e l in
+      (omega (arith, x), λ h. absurd (let w : ⊥ = omega arith in w))
+  price-for true false e f =
+      let x = round-prices a draw S L op D A p hp .stayed e (ltb-false _ _ f) in
+      let y = S .prices p hp in
+      (omega (arith, x, y), λ h. omega (arith, x))
+
+  -- where held equals target the price before stays
+  before-for : held (z .records) n p ≡ targetOf (a .terms) p → (s : Bool) → isOpen z ≡ s → beforeAt z p ≡ beforeAt a p
+  before-for h true e = round-prices a draw S L op D A p hp .stayed e (omega arith) .1
+  before-for h false e = round-prices a draw S L op D A p hp .ended e .1
+
+  module _ (o : OnOffer) (K : Backed o a b p) where
+    -- what the steps leave at this place
+    pub record Left (v : OnOffer) : Type 0 where
+      pub going : goingIn (at4 .holds) ≤ v .bid
+      pub denied : deniedIn (at4 .holds) ≤ v .switched
+      pub retained : retainedIn (at4 .holds) ≤ v .withdrawn
+      pub own : v .bid + v .switched + v .withdrawn ≤ v .ever
+      pub price : v .price ≡ priceAt a p
+      pub before : 0 < deniedIn (at4 .holds) → v .before ≤ beforeAt a p
+      pub exit : 0 < retainedIn (at4 .holds) → v .exit ≡ exitIn (at4 .holds)
+
+    left-by : (s u : Bool) → ticked a p ≡ s → increaseLeft r b p ≡ u → at3 ≡ deemIf s at2
+        → Left (offeringBy r b p s u o)
+    left-by true u e f d =
+        let T = trail a draw S L op D A b p hb hp in
+        let F = fresh a draw S L op D A b p hb hp e in
+        let g = ap goingOf d in
+        let k = ap deniedOf d in
+        record {
+          going = omega arith;
+          denied = omega (arith, K .going);
+          retained = omega arith;
+          own = omega (arith, K .going, K .own);
+          price = omega arith;
+          before = λ h. omega (arith, K .price (omega arith), S .prices p hp);
+          exit = λ h. sym (T .outed .exit h ∙ T .deemed .exit ∙ T .moved .exit-new (omega arith) ∙ T .made .leaves);
+        }
+    left-by false true e f d =
+        let T = trail a draw S L op D A b p hb hp in
+        let U = unticked a draw S L op D A b p hb hp e in
+        let h = d ∙ ap (λ t. cond t (deem at2) at2) f in
+        let g = ap goingOf h in
+        let k = ap deniedOf h in
+        record {
+          going = omega (arith, K .denied);
+          denied = omega arith;
+          retained = omega (arith, K .retained);
+          own = omega (arith, K .own);
+          price = omega arith;
+          before = λ h. absurd (let w : ⊥ = omega arith in w);
+          exit = λ h. K .exit (omega arith) ∙ sym (T .outed .exit h ∙ T .deemed .exit ∙ U .exit);
+        }
+    left-by false false e f d =
+        let T = trail a draw S L op D A b p hb hp in
+        let U = unticked a draw S L op D A b p hb hp e in
+        let h = d ∙ ap (λ t. cond t (deem at2) at2) f in
+        let g = ap goingOf h in
+        let k = ap deniedOf h in
+        record {
+          going = omega arith;
+          denied = omega (arith, K .denied);
+          retained = omega (arith, K .retained);
+          own = omega (arith, K .own);
+          price = omega arith;
+          before = λ h. K .before (omega arith);
+          exit = λ h. K .exit (omega arith) ∙ sym (T .outed .exit h ∙ T .deemed .exit ∙ U .exit);
+        }
+
+    -- a round carries it on
+    pub round-backed : Backed (offering (record { auction = a; draw = draw }) b p o) (calculated a draw .auction) b p
+    round-backed =
+        let X = left-by (ticked a p) (increaseLeft r b p) refl refl deemed-is in
+        let t = round-terms a draw S L op D A in
+        let g = ap goingIn record-is in
+        let d = ap deniedIn record-is in
+        let q = ap retainedIn record-is in
+        let x = ap exitIn record-is in
+        let v = price-for (isOpen z) (ltb (targetOf (a .terms) p) (held (z .records) n p)) refl refl in
+        record {
+          going = omega (arith, X .going);
+          denied = omega (arith, X .denied);
+          retained = omega (arith, X .retained);
+          own = X .own;
+          price = λ h. rw (t, X .price) v;
+          before = λ h. let w = before-for (met (omega arith)) (isOpen z) refl in omega (arith, X .before (omega arith));
+          exit = λ h. X .exit (omega arith) ∙ sym x;
+        }
+
+-- ---- a cutback: an offer before it counts
+
+module _ (a : Auction) (targets caps : List Tranches) (S : Stands a) (op : isOpen a ≡ true) (M : mayCut a targets caps ≡ true)
+    (b p : ℕ) (hb : b < a .terms .bidders) (hp : p < a .terms .products) (o : OnOffer) (K : Backed o a b p) where
+  abbrev cut : Auction
+  cut = cutBack a targets caps
+
+  -- q is the starting price, and p too where the product is not above its revised target
+  start-for : (s : Bool) → isOpen cut ≡ s → held (cut .records) (cut .terms .bidders) p ≤ targetOf (cut .terms) p
+      → priceAt cut p ≡ beforeAt cut p
+  unfolding revised
+  start-for true e h =
+      let P = cut-price a targets caps S op M p hp in
+      let n = ap (λ t. held (cut .records) (t .bidders) p) (cut-only a targets caps S op M .terms) in
+      P .stayed e (omega arith) ∙ sym (P .before)
+  start-for false e h = let P = cut-price a targets caps S op M p hp in P .ended e ∙ sym (P .before)
+
+  pub cut-backed : Backed o (cutBack a targets caps) b p
+  cut-backed =
+      let C = cut-only a targets caps S op M in
+      let P = cut-price a targets caps S op M p hp in
+      let hb8 : b < 32 = omega (arith, S .limits .bidders) in
+      let hp8 : p < 8 = omega (arith, S .limits .products) in
+      let g = C .going b p hb8 hp8 in
+      let d = C .denied b p hb8 hp8 in
+      let q = C .retained b p hb8 hp8 in
+      record {
+        going = omega (arith, K .going);
+        denied = omega (arith, K .denied);
+        retained = omega (arith, K .retained);
+        own = K .own;
+        price = λ h.
+            let x = K .price (omega arith) in
+            let y = S .prices p hp in
+            (omega (arith, x, y, P .before), λ l. omega (arith, x, y, P .before, start-for (isOpen cut) refl l));
+        before = λ h. let x = K .before (omega arith) in let y = S .prices p hp in omega (arith, y, P .before);
+        exit = λ h. K .exit (omega arith) ∙ sym (C .exit b p hb8 hp8);
+      }
+
+-- ---- the price paid
+
+-- no record holds a tranche at more than the highest price
+highest-ge : (a : Auction) (p n b : ℕ) → b < n → highestIn (priceAt a p) (beforeAt a p) (recordOf a b p) ≤ highestUpTo a p n
+highest-ge a p zero b l = absurd (let x : ⊥ = omega arith in x)
+highest-ge a p (suc n) b l = by (eqb b n) refl (highest-ge a p n b)
+  where
+    by : (s : Bool) → eqb b n ≡ s → (b < n → highestIn (priceAt a p) (beforeAt a p) (recordOf a b p) ≤ highestUpTo a p n)
+        → highestIn (priceAt a p) (beforeAt a p) (recordOf a b p) ≤ highestUpTo a p (suc n)
+    by true e r = let x = ap (λ i. highestIn (priceAt a p) (beforeAt a p) (recordOf a i p)) (eqb-true b n e) in omega arith
+    by false e r = let d = eqb-false b n e in let x = r (omega (arith, d)) in omega arith
+
+paid-by : (v h q : ℕ) → 1 ≤ v → v ≤ h → (s : Bool) → eqb h 0 ≡ s → v ≤ cond s q h
+paid-by v h q l g true e = let x = eqb-true h 0 e in absurd (let y : ⊥ = omega arith in y)
+paid-by v h q l g false e = g
+
+closed-by : (x : ℕ) (u f e g : Bool) → x ≡ closed → cond (eqb x 1) u (f && cond (eqb x closed) e g) ≡ true → e ≡ true
+closed-by x u f e g q t =
+    and-right f e (subst (λ x. cond (eqb x 1) u (f && cond (eqb x closed) e g) ≡ true) q t)
+
+module _ (a : Auction) (S : Stands a) where
+  -- a closed auction holds no more than the target of any product
+  pub closed-within : a .phase ≡ closed → (p : ℕ) → p < a .terms .products
+      → held (a .records) (a .terms .bidders) p ≤ targetOf (a .terms) p
+  closed-within c p hp =
+      let e = eqb-true (excess a) 0 (closed-by (a .phase) (openStands a) (eqb (a .filed) 0) (eqb (excess a) 0) _ c (S .phase)) in
+      let x = sum-ge (λ p. aboveZero (standingOf a p)) (a .terms .products) p hp in
+      omega (arith, above-zero (held (a .records) (a .terms .bidders) p) (targetOf (a .terms) p))
+
+  -- nor any free eligibility
+  pub closed-free : a .phase ≡ closed → (b : ℕ) → b < a .terms .bidders → freeOf a b ≡ 0
+  closed-free c b hb =
+      let e = eqb-true (excess a) 0 (closed-by (a .phase) (openStands a) (eqb (a .filed) 0) (eqb (excess a) 0) _ c (S .phase)) in
+      omega (arith, sum-ge (freeOf a) (a .terms .bidders) b hb)
+
+  module _ (b p : ℕ) (hb : b < a .terms .bidders) (hp : p < a .terms .products) where
+    paid : (v : ℕ) → 1 ≤ v → v ≤ highestIn (priceAt a p) (beforeAt a p) (recordOf a b p) → v ≤ paidOn a p
+    paid v l g =
+        let x = highest-ge a p (a .terms .bidders) b hb in
+        paid-by v (highestUpTo a p (a .terms .bidders)) (priceAt a p) l (omega arith) (eqb (highestUpTo a p (a .terms .bidders)) 0) refl
+
+    -- the price paid is at least p where g is held, q where d is, and the exit price where r is
+    pub paid-going : 0 < goingIn (recordOf a b p) → priceAt a p ≤ paidOn a p
+    paid-going h =
+        let e = ap (λ s. cond s (priceAt a p) 0) (lt-ltb 0 (goingIn (recordOf a b p)) h) in
+        paid (priceAt a p) (S .prices p hp .0) (omega arith)
+
+    pub paid-denied : 0 < deniedIn (recordOf a b p) → beforeAt a p ≤ paidOn a p
+    paid-denied h =
+        let e = ap (λ s. cond s (beforeAt a p) 0) (lt-ltb 0 (deniedIn (recordOf a b p)) h) in
+        let w = S .prices p hp in
+        paid (beforeAt a p) (omega (arith, w)) (omega arith)
+
+    pub paid-retained : 0 < retainedIn (recordOf a b p) → exitIn (recordOf a b p) ≤ paidOn a p
+    paid-retained h =
+        let e = ap (λ s. cond s (exitIn (recordOf a b p)) 0) (lt-ltb 0 (retainedIn (recordOf a b p)) h) in
+        let w = S .exits b p hb hp h in
+        paid (exitIn (recordOf a b p)) (omega (arith, w)) (omega arith)
+
+-- ---- an award
+
+-- the three parts at no more than the price paid
+module _ (a : Auction) (S : Stands a) (c : a .phase ≡ closed) (b p : ℕ) (hb : b < a .terms .bidders) (hp : p < a .terms .products)
+    (o : OnOffer) (K : Backed o a b p) where
+  pub going-paid : 0 < goingIn (recordOf a b p) → o .price ≤ paidOn a p
+  going-paid h = omega (arith, K .price h .1 (closed-within a S c p hp), paid-going a S b p hb hp h)
+
+  pub denied-paid : 0 < deniedIn (recordOf a b p) → o .before ≤ paidOn a p
+  denied-paid h = omega (arith, K .before h, paid-denied a S b p hb hp h)
+
+  pub retained-paid : 0 < retainedIn (recordOf a b p) → o .exit ≤ paidOn a p
+  retained-paid h = omega (arith, K .exit h, paid-retained a S b p hb hp h)

@@ -1,0 +1,56 @@
+-- What is on offer, worked out for rounds of document 01's cases in the settings S and T. Assumes nothing.
+use mathlib.Core.Path.{_≡_, refl}
+use mathlib.Core.List.{List, [], _∷_}
+use Prim.Native.Nat.{ℕ}
+use Rattle.rules.specs.Count.{allUpTo, from}
+use Rattle.rules.specs.Bits.{setIn}
+use Rattle.rules.specs.Card.{line}
+use Rattle.rules.specs.Keep.{keepLoop}
+use Rattle.rules.specs.Calls.{opened, withCard}
+use Rattle.starred.specs.Cases.{S, T, s1, s2, t1, t2, b, card, filed, draw}
+use Rattle.promises.specs.Runs.{Round}
+use Rattle.promises.specs.Offered.{OnOffer, onOffer, inRounds, givenUp, withdrawnIn}
+
+-- bid and its price; switched and the price before; withdrawn and the exit price; ever offered
+abbrev offer : ℕ → ℕ → ℕ → ℕ → ℕ → ℕ → ℕ → OnOffer
+offer n x s y w e all = record { bid = n; price = x; switched = s; before = y; withdrawn = w; exit = e; ever = all }
+
+unfoldable pub roundsOfS : List Round
+roundsOfS =
+    record { auction = filed (opened S) (card (b 2) (b 0)) (card (b 2) (b 1)) (card (b 1) (b 1)); draw = draw 0 1 2 }
+    ∷ record { auction = filed s1 (card (line 1 1 985 0) (b 0)) (card (b 1) (line 2 0 0 1)) (card (line 0 1 980 0) (b 1)); draw = draw 0 1 2 }
+    ∷ record { auction = filed s2 (card (b 1) (b 0)) (card (b 1) (line 1 1 790 0)) (card (b 0) (line 0 1 790 0)); draw = draw 2 0 1 }
+    ∷ []
+
+-- in the last of these bidder 0's denied switch is deemed bid
+unfoldable pub roundsOfT : List Round
+roundsOfT =
+    record { auction = filed (opened T) (card (b 2) (b 0)) (card (b 1) (b 1)) (card (b 0) (b 2)); draw = draw 0 1 2 }
+    ∷ record { auction = filed t1 (card (b 0) (line 2 0 0 1)) (card (b 1) (b 1)) (card (b 0) (b 2)); draw = draw 0 1 2 }
+    ∷ record { auction = filed t2 (card (line 1 0 0 1) (b 0)) (card (b 1) (b 1)) (card (b 0) (b 2)); draw = draw 0 1 2 }
+    ∷ []
+
+pub offers-worked :
+    -- bid 1, then that 1 withdrawn at 980: one ever offered
+    (onOffer roundsOfS 2 0 ≡ offer 0 970 0 1000 1 980 1)
+    -- 1 bid in two rounds, then withdrawn at 790: one ever offered
+    × (onOffer roundsOfS 2 1 ≡ offer 0 776 0 800 1 790 1)
+    -- 2 bid, then 1 of them switched away, 1 bid on
+    × (onOffer roundsOfS 1 0 ≡ offer 1 970 1 1000 0 0 2)
+    -- 1 bid, then 1 more, then one of these withdrawn
+    × (onOffer roundsOfS 1 1 ≡ offer 1 776 0 800 1 790 2)
+    -- 2 bid, both switched away, 1 bid anew: the one switch that was denied is deemed bid with it
+    × (onOffer roundsOfT 0 0 ≡ offer 2 970 0 1000 0 0 3)
+unfolding roundsOfS roundsOfT opened withCard allUpTo from setIn keepLoop
+offers-worked = (refl, refl, refl, refl, refl)
+
+-- of an initial eligibility of 3 each: given up in the three rounds, and withdrawn
+pub given-up-worked :
+    -- bidder 0 bids 2, then withdraws one of them, and is awarded the other
+    (inRounds (givenUp 0) roundsOfS ≡ 2) × (inRounds (withdrawnIn 0) roundsOfS ≡ 1)
+    -- bidder 1 bids 3, switches one, withdraws one, and is awarded two
+    × (inRounds (givenUp 1) roundsOfS ≡ 1) × (inRounds (withdrawnIn 1) roundsOfS ≡ 1)
+    -- bidder 2 bids 2 and withdraws both, which are retained
+    × (inRounds (givenUp 2) roundsOfS ≡ 3) × (inRounds (withdrawnIn 2) roundsOfS ≡ 2)
+unfolding roundsOfS opened withCard setIn
+given-up-worked = (refl, refl, refl, refl, refl, refl)
