@@ -1,196 +1,409 @@
-/* Plain C of one calculation: the same steps on the same records, for counting executed instructions against the proved code.
-   ./plain N SCENE: SCENE 0 keeps 1,600 withdrawals, SCENE 1 denies 1,400 switches; N is how often the round is calculated. */
+/* Plain C of the calls count and calculate on the same bytes (docs/LAYOUT.md): load them, judge that the state stands, calculate,
+   store them. For counting executed instructions against the proved code.
+   ./plain LETTER N <STATE: k calculates the state N times, c counts it N times, a calculates it and writes its bytes. */
 #include <stdint.h>
 #include <stdio.h>
 #include <stdlib.h>
 #include <string.h>
 
-enum { PRODUCTS = 8, BIDDERS = 32, PLACES = 256 };
+/* STATE, the state's length, is given by bench/count from crates/layout. */
+enum { PRODUCTS = 8, BIDDERS = 32, ROWS = 8, PLACES = 256, LAST = 4095 };
+enum { OPEN = 1, CLOSED = 2, STOPPED = 3 };
 
-struct lot { uint16_t count; uint32_t exit; };
-struct record { uint16_t going, denied; struct lot retained; };
-struct line { uint16_t tranches; struct lot withdrawn; uint8_t priority; };
-struct place { struct record holds; struct lot leaving; uint16_t moving, rise; uint8_t priority; };
+struct product { uint8_t target, cap; uint32_t start, price, before; };
+struct seat { uint16_t initial, free; };
+struct row { uint16_t percent, decrement; };
+struct record { uint8_t going, denied, retained; uint32_t exit; };
+struct line { uint8_t tranches, withdrawn, priority; uint32_t exit; };
 
 struct auction {
-    uint8_t phase, products, bidders, rows;
-    uint16_t round;
+    uint8_t phase, unit, products, bidders, rows;
+    uint16_t round, statewide;
     uint32_t filed;
-    uint16_t target[8], percent[8], decrement[8];
-    uint32_t price[8], before[8];
-    uint16_t free[BIDDERS];
-    struct record records[PLACES];
-    struct line bids[PLACES];
+    struct product product[PRODUCTS];
+    struct seat seat[BIDDERS];
+    struct row row[ROWS];
+    struct record record[PLACES];
+    struct line line[PLACES];
 };
 
-static int held_record(const struct record *r) { return r->going + r->denied + r->retained.count; }
+/* ---- The bytes */
 
-static int held_on(const struct auction *a, int p) {
+static uint16_t get2(const uint8_t *s) { return (uint16_t)(s[0] << 8 | s[1]); }
+static uint32_t get3(const uint8_t *s) { return (uint32_t)(s[0] << 16 | s[1] << 8 | s[2]); }
+static uint32_t get4(const uint8_t *s) { return (uint32_t)get2(s) << 16 | get2(s + 2); }
+static void put2(uint8_t *s, uint32_t x) { s[0] = (uint8_t)(x >> 8), s[1] = (uint8_t)x; }
+static void put3(uint8_t *s, uint32_t x) { s[0] = (uint8_t)(x >> 16), put2(s + 1, x); }
+static void put4(uint8_t *s, uint32_t x) { put2(s, x >> 16), put2(s + 2, x); }
+
+static void load(struct auction *a, const uint8_t *s) {
+    a->phase = s[0], a->unit = s[1], a->products = s[2], a->bidders = s[3], a->rows = s[4];
+    a->round = get2(s + 5), a->statewide = get2(s + 7), a->filed = get4(s + 9);
+    s += 13;
+    for (int p = 0; p < PRODUCTS; p++, s += 11)
+        a->product[p] = (struct product){s[0], s[1], get3(s + 2), get3(s + 5), get3(s + 8)};
+    for (int b = 0; b < BIDDERS; b++, s += 4) a->seat[b] = (struct seat){get2(s), get2(s + 2)};
+    for (int i = 0; i < ROWS; i++, s += 4) a->row[i] = (struct row){get2(s), get2(s + 2)};
+    for (int k = 0; k < PLACES; k++, s += 6) a->record[k] = (struct record){s[0], s[1], s[2], get3(s + 3)};
+    for (int k = 0; k < PLACES; k++, s += 6) a->line[k] = (struct line){s[0], s[1], s[5], get3(s + 2)};
+}
+
+static void store(const struct auction *a, uint8_t *s) {
+    s[0] = a->phase, s[1] = a->unit, s[2] = a->products, s[3] = a->bidders, s[4] = a->rows;
+    put2(s + 5, a->round), put2(s + 7, a->statewide), put4(s + 9, a->filed);
+    s += 13;
+    for (const struct product *t = a->product; t < a->product + PRODUCTS; t++, s += 11)
+        s[0] = t->target, s[1] = t->cap, put3(s + 2, t->start), put3(s + 5, t->price), put3(s + 8, t->before);
+    for (const struct seat *t = a->seat; t < a->seat + BIDDERS; t++, s += 4) put2(s, t->initial), put2(s + 2, t->free);
+    for (const struct row *t = a->row; t < a->row + ROWS; t++, s += 4) put2(s, t->percent), put2(s + 2, t->decrement);
+    for (const struct record *r = a->record; r < a->record + PLACES; r++, s += 6)
+        s[0] = r->going, s[1] = r->denied, s[2] = r->retained, put3(s + 3, r->exit);
+    for (const struct line *l = a->line; l < a->line + PLACES; l++, s += 6)
+        s[0] = l->tranches, s[1] = l->withdrawn, put3(s + 2, l->exit), s[5] = l->priority;
+}
+
+/* ---- "Standing means" */
+
+/* What is held and what is kept of each product. */
+struct sums { int held[PRODUCTS], kept[PRODUCTS]; };
+
+static int is_above(const struct auction *a, const struct sums *s, int p) { return s->held[p] > a->product[p].target; }
+
+/* "settings within limits, round 1 to 4,095", "1 <= p <= q, q at most the starting price" */
+static int limits(const struct auction *a) {
+    if (a->unit > 1 || a->products < 1 || a->products > PRODUCTS || a->bidders < 1 || a->bidders > BIDDERS) return 0;
+    if (a->rows < 1 || a->rows > ROWS || a->round < 1 || a->round > LAST) return 0;
+    int targets = 0;
+    for (int p = 0; p < PRODUCTS; p++) {
+        const struct product *t = &a->product[p];
+        if (p >= a->products) {
+            if (t->target || t->cap || t->start || t->price || t->before) return 0;
+            continue;
+        }
+        if (t->target < 1 || t->target > 200 || (p > 0 && t->target > t[-1].target)) return 0;
+        if (t->cap < 1 || t->cap > t->target || t->start > 99999) return 0;
+        if (t->price < 1 || t->price > t->before || t->before > t->start) return 0;
+        targets += t->target;
+    }
+    if (a->statewide < 1 || a->statewide > targets) return 0;
+    for (int b = 0; b < BIDDERS; b++) {
+        const struct seat *t = &a->seat[b];
+        if (b < a->bidders ? t->initial < 1 || t->initial > a->statewide : t->initial || t->free) return 0;
+    }
+    for (int i = 0; i < ROWS; i++) {
+        const struct row *t = &a->row[i];
+        if (i >= a->rows) {
+            if (t->percent || t->decrement) return 0;
+            continue;
+        }
+        if (i == 0 ? t->percent != 0 : t->percent <= t[-1].percent) return 0;
+        if (t->percent > 60000 || t->decrement < 50 || t->decrement > 500) return 0;
+    }
+    return a->bidders == BIDDERS || a->filed >> a->bidders == 0;
+}
+
+/* "retained exits above p, at most q, and 0 where r is 0"; 12 of a card asks the same of its exits. */
+static int exit_fits(int count, uint32_t exit, const struct product *t) {
+    return count ? t->price < exit && exit <= t->before : exit == 0;
+}
+
+/* The records, one by one; what is held and kept is summed on the way. */
+static int records_stand(const struct auction *a, struct sums *s) {
+    memset(s, 0, sizeof *s);
+    for (int b = 0; b < BIDDERS; b++) {
+        int mine = a->seat[b].free;
+        for (int p = 0; p < PRODUCTS; p++) {
+            const struct record *r = &a->record[b * PRODUCTS + p];
+            if (b >= a->bidders || p >= a->products) {
+                if (r->going || r->denied || r->retained || r->exit) return 0;
+                continue;
+            }
+            int kept = r->denied + r->retained, held = r->going + kept;
+            if (held > a->product[p].cap || !exit_fits(r->retained, r->exit, &a->product[p])) return 0;
+            s->held[p] += held;
+            s->kept[p] += kept;
+            mine += held;
+        }
+        if (mine > a->seat[b].initial) return 0;
+    }
+    for (int p = 0; p < a->products; p++) {
+        const struct product *t = &a->product[p];
+        if (s->kept[p] && s->held[p] != t->target) return 0;
+        if ((s->kept[p] || (a->phase == OPEN && is_above(a, s, p))) && t->price == t->before) return 0;
+    }
+    return 1;
+}
+
+/* A filed card by 8 to 13. */
+static int card_stands(const struct auction *a, const struct sums *s, int b) {
+    int going = 0, bid = 0, down = 0, up = 0, withdrawn = 0, raised = 0, numbers = 0;
+    for (int p = 0; p < a->products; p++) {
+        const struct record *r = &a->record[b * PRODUCTS + p];
+        const struct line *l = &a->line[b * PRODUCTS + p];
+        int fall = r->going > l->tranches ? r->going - l->tranches : 0;
+        int rise = l->tranches > r->going ? l->tranches - r->going : 0;
+        if (l->tranches + r->denied + r->retained > a->product[p].cap) return 0; /* 8 */
+        if (fall && !is_above(a, s, p)) return 0; /* 9 */
+        if (l->withdrawn > fall) return 0; /* 11 */
+        if (!exit_fits(l->withdrawn, l->exit, &a->product[p])) return 0; /* 12 */
+        if (l->priority) { /* 13 */
+            if (!rise || l->priority > 7 || numbers >> l->priority & 1) return 0;
+            numbers |= 1 << l->priority;
+        }
+        going += r->going, bid += l->tranches, down += fall, up += rise, withdrawn += l->withdrawn, raised += rise > 0;
+    }
+    int free = a->seat[b].free, switched = up > free ? up - free : 0;
+    if (bid > going + free) return 0; /* 10 */
+    if (withdrawn != down - switched) return 0; /* 11 */
+    return numbers == (switched ? (2 << raised) - 2 : 0); /* 13 */
+}
+
+static int lines_are_zero(const struct auction *a, int b, int from) {
+    for (int p = from; p < PRODUCTS; p++) {
+        const struct line *l = &a->line[b * PRODUCTS + p];
+        if (l->tranches || l->withdrawn || l->exit || l->priority) return 0;
+    }
+    return 1;
+}
+
+static int cards_stand(const struct auction *a, const struct sums *s) {
+    for (int b = 0; b < BIDDERS; b++) {
+        int filed = a->filed >> b & 1;
+        if (!lines_are_zero(a, b, filed ? a->products : 0)) return 0;
+        if (filed && !card_stands(a, s, b)) return 0;
+    }
+    return 1;
+}
+
+/* "Total excess supply = the standings above zero, summed, plus all f." */
+static int excess(const struct auction *a, const struct sums *s) {
     int sum = 0;
-    for (int b = 0; b < a->bidders; b++) sum += held_record(&a->records[b * 8 + p]);
+    for (int p = 0; p < a->products; p++) if (is_above(a, s, p)) sum += s->held[p] - a->product[p].target;
+    for (int b = 0; b < a->bidders; b++) sum += a->seat[b].free;
     return sum;
 }
 
-static void accept(const struct auction *a, const uint8_t *ticks, struct place *places) {
-    for (int k = 0; k < PLACES; k++) {
-        const struct record *r = &a->records[k];
-        struct line l;
-        if (a->filed >> (k / 8) & 1) l = a->bids[k];
-        else if (ticks[k % 8]) l = (struct line){0, {r->going, r->going ? a->before[k % 8] : 0}, 0};
-        else l = (struct line){r->going, {0, 0}, 0};
+/* "a product above target is at price 1, or this was round 4,095" */
+static int must_stop(const struct auction *a, const struct sums *s) {
+    for (int p = 0; p < a->products; p++) if (is_above(a, s, p) && a->product[p].price == 1) return 1;
+    return a->round == LAST;
+}
+
+static int as_opened(const struct auction *a, const struct sums *s) {
+    for (int p = 0; p < a->products; p++) if (s->held[p] || a->product[p].price != a->product[p].start) return 0;
+    for (int b = 0; b < a->bidders; b++) if (a->seat[b].free != a->seat[b].initial) return 0;
+    return 1;
+}
+
+static int phase_stands(const struct auction *a, const struct sums *s) {
+    if (a->phase == OPEN) {
+        if (a->round == 1) return as_opened(a, s);
+        if (a->round == 2) for (int p = 0; p < a->products; p++) if (s->kept[p]) return 0;
+        return excess(a, s) > 0;
+    }
+    if (a->filed) return 0;
+    if (a->phase == CLOSED) return excess(a, s) == 0;
+    return a->phase == STOPPED && excess(a, s) > 0 && must_stop(a, s);
+}
+
+/* 1, 2 or 3, or 0 with the auction loaded. */
+static int state_number(struct auction *a, struct sums *s, const uint8_t *state, size_t length) {
+    if (length != STATE) return 1;
+    if (state[0] == 0) {
+        for (int i = 0; i < STATE; i++) if (state[i]) return 2;
+        return 3;
+    }
+    load(a, state);
+    if (!limits(a) || !records_stand(a, s) || !cards_stand(a, s) || !phase_stands(a, s)) return 2;
+    return a->phase == OPEN ? 0 : 3;
+}
+
+/* ---- Calculating */
+
+/* A record as it becomes, and what of its bid can still be kept or cancelled. */
+struct place { struct record holds; uint32_t exit; uint8_t leaving, moving, rise, priority; };
+
+static struct line default_line(const struct auction *a, int k, int ticked) {
+    int going = a->record[k].going;
+    if (!ticked) return (struct line){(uint8_t)going, 0, 0, 0};
+    return (struct line){0, (uint8_t)going, 0, going ? a->product[k % PRODUCTS].before : 0};
+}
+
+/* Step 1. The sums become those of the accepted bids. */
+static void accept(const struct auction *a, const uint8_t *ticks, struct place *places, struct sums *s) {
+    for (int k = 0; k < a->bidders * PRODUCTS; k++) {
+        const struct record *r = &a->record[k];
+        int p = k % PRODUCTS;
+        struct line l = a->filed >> (k / PRODUCTS) & 1 ? a->line[k] : default_line(a, k, ticks[p]);
         struct place *q = &places[k];
-        int down = r->going > l.tranches ? r->going - l.tranches : 0;
+        int up = l.tranches - r->going;
         q->holds = *r;
         q->holds.going = l.tranches;
+        q->exit = l.exit;
         q->leaving = l.withdrawn;
-        q->moving = down - l.withdrawn.count;
-        q->rise = l.tranches > r->going ? l.tranches - r->going : 0;
+        q->moving = (uint8_t)(up < 0 ? -up - l.withdrawn : 0);
+        q->rise = (uint8_t)(up > 0 ? up : 0);
         q->priority = l.priority;
+        s->held[p] += up;
     }
 }
 
-static int keep(const struct auction *a, const uint8_t *ticks, const uint8_t *draw, struct place *places) {
-    int held[8], kept = 0;
-    for (int p = 0; p < 8; p++) {
-        held[p] = 0;
-        for (int b = 0; b < a->bidders; b++) held[p] += held_record(&places[b * 8 + p].holds);
-    }
-    for (;;) {
+/* Step 2. */
+static int keep(const struct auction *a, const uint8_t *ticks, const uint8_t *draw, struct place *places, struct sums *s) {
+    for (int kept = 0;; kept++) {
         int p = 0;
-        while (p < a->products && !(ticks[p] && held[p] - a->target[p] < 0)) p++;
+        while (p < a->products && !(ticks[p] && s->held[p] < a->product[p].target)) p++;
         if (p == a->products) return kept;
-        int best = -1;
+        struct place *best = NULL;
         for (int i = 0; i < a->bidders; i++) {
-            const struct place *q = &places[draw[i] * 8 + p];
-            if (q->leaving.count && (best < 0 || q->leaving.exit < places[best].leaving.exit)) best = draw[i] * 8 + p;
+            struct place *q = &places[draw[i] * PRODUCTS + p];
+            if (q->leaving && (!best || q->exit < best->exit)) best = q;
         }
-        if (best >= 0) {
-            struct place *q = &places[best];
-            q->leaving.count--;
-            q->holds.retained.count++;
-            q->holds.retained.exit = q->leaving.exit;
+        if (best) {
+            best->leaving--;
+            best->holds.retained++;
+            best->holds.exit = best->exit;
         } else {
             int i = 0;
-            while (i < a->bidders && !places[draw[i] * 8 + p].moving) i++;
+            while (i < a->bidders && !places[draw[i] * PRODUCTS + p].moving) i++;
             if (i == a->bidders) return kept;
-            struct place *q = &places[draw[i] * 8 + p];
-            q->moving--;
-            q->holds.denied++;
+            struct place *own = &places[draw[i] * PRODUCTS];
+            own[p].moving--;
+            own[p].holds.denied++;
             int up = -1;
-            for (int o = 0; o < a->products; o++) {
-                const struct place *x = &places[draw[i] * 8 + o];
-                if (x->rise && (up < 0 || places[draw[i] * 8 + up].priority < x->priority)) up = o;
-            }
-            if (up >= 0) {
-                places[draw[i] * 8 + up].rise--;
-                places[draw[i] * 8 + up].holds.going--;
-                held[up]--;
-            }
+            for (int o = 0; o < a->products; o++)
+                if (own[o].rise && (up < 0 || own[o].priority > own[up].priority)) up = o;
+            if (up < 0) return kept;
+            own[up].rise--;
+            own[up].holds.going--;
+            s->held[up]--;
         }
-        held[p]++;
-        kept++;
+        s->held[p]++;
     }
 }
 
+/* Step 3. */
 static void deem(const struct auction *a, const uint8_t *ticks, struct place *places) {
-    for (int k = 0; k < a->bidders * 8; k++)
-        if (!ticks[k % 8] && places[k].rise) {
+    for (int k = 0; k < a->bidders * PRODUCTS; k++)
+        if (!ticks[k % PRODUCTS] && places[k].rise) {
             places[k].holds.going += places[k].holds.denied;
             places[k].holds.denied = 0;
         }
 }
 
-static int outbid(struct auction *a, const uint8_t *ticks, const uint8_t *draw, struct place *places) {
+/* Step 4. */
+static int outbid(struct auction *a, const uint8_t *ticks, const uint8_t *draw, struct place *places, struct sums *s) {
     int count = 0;
+    for (int b = 0; b < a->bidders; b++) a->seat[b].free = 0;
     for (int p = 0; p < a->products; p++) {
         if (ticks[p]) continue;
-        int held = 0, kept = 0;
+        int kept = 0;
         for (int b = 0; b < a->bidders; b++) {
-            held += held_record(&places[b * 8 + p].holds);
-            kept += places[b * 8 + p].holds.denied + places[b * 8 + p].holds.retained.count;
+            const struct record *r = &places[b * PRODUCTS + p].holds;
+            kept += r->denied + r->retained;
         }
-        while (held - a->target[p] > 0 && kept) {
-            int who = -1;
-            for (int i = 0; i < a->bidders && who < 0; i++)
-                if (places[draw[i] * 8 + p].holds.denied) who = draw[i];
-            if (who >= 0) {
-                places[who * 8 + p].holds.denied--;
-                a->free[who]++;
-            } else {
-                for (int i = 0; i < a->bidders; i++) {
-                    const struct lot *l = &places[draw[i] * 8 + p].holds.retained;
-                    if (l->count && (who < 0 || places[who * 8 + p].holds.retained.exit < l->exit)) who = draw[i];
-                }
-                struct lot *l = &places[who * 8 + p].holds.retained;
-                if (--l->count == 0) l->exit = 0;
+        for (; is_above(a, s, p) && kept; kept--, s->held[p]--, count++) {
+            int i = 0;
+            while (i < a->bidders && !places[draw[i] * PRODUCTS + p].holds.denied) i++;
+            if (i < a->bidders) {
+                places[draw[i] * PRODUCTS + p].holds.denied--;
+                a->seat[draw[i]].free++;
+                continue;
             }
-            held--, kept--, count++;
+            struct record *best = NULL;
+            for (i = 0; i < a->bidders; i++) {
+                struct record *r = &places[draw[i] * PRODUCTS + p].holds;
+                if (r->retained && (!best || r->exit > best->exit)) best = r;
+            }
+            if (--best->retained == 0) best->exit = 0;
         }
     }
     return count;
 }
 
-static void settle(struct auction *a) {
-    int excess = 0, bottom = 0, standing[8];
-    for (int p = 0; p < a->products; p++) {
-        standing[p] = held_on(a, p) - a->target[p];
-        if (standing[p] > 0) excess += standing[p], bottom |= a->price[p] == 1;
-    }
-    for (int b = 0; b < a->bidders; b++) excess += a->free[b];
+static uint32_t next_price(const struct auction *a, const struct product *t, int held) {
+    int percent = 100 * (held - t->target) / t->target, i = a->rows - 1;
+    while (a->row[i].percent > percent) i--;
+    uint32_t cut = (t->price * a->row[i].decrement + 5000) / 10000;
+    return t->price - (cut ? cut : 1);
+}
+
+/* Step 5. */
+static void settle(struct auction *a, const struct sums *s) {
     a->filed = 0;
-    memset(a->bids, 0, sizeof a->bids);
-    if (!excess) { a->phase = 2; return; }
-    if (bottom || a->round == 4095) { a->phase = 3; return; }
-    a->round++;
-    for (int p = 0; p < a->products; p++)
-        if (standing[p] > 0) {
-            int percent = 100 * standing[p] / a->target[p], row = 0;
-            for (int i = 0; i < a->rows; i++) if (a->percent[i] <= percent) row = i;
-            uint32_t cut = (a->price[p] * (uint64_t)a->decrement[row] + 5000) / 10000;
-            a->before[p] = a->price[p];
-            a->price[p] -= cut ? cut : 1;
+    memset(a->line, 0, sizeof a->line);
+    if (excess(a, s) == 0) {
+        a->phase = CLOSED;
+    } else if (must_stop(a, s)) {
+        a->phase = STOPPED;
+    } else {
+        a->round++;
+        for (int p = 0; p < a->products; p++) {
+            struct product *t = &a->product[p];
+            if (!is_above(a, s, p)) continue;
+            t->before = t->price;
+            t->price = next_price(a, t, s->held[p]);
         }
-}
-
-struct counts { int kept, outbid; };
-
-static struct counts calculate(struct auction *a, const uint8_t *draw) {
-    uint8_t ticks[8];
-    struct place places[PLACES];
-    for (int p = 0; p < 8; p++) ticks[p] = held_on(a, p) - a->target[p] > 0;
-    accept(a, ticks, places);
-    struct counts c = {keep(a, ticks, draw, places), 0};
-    deem(a, ticks, places);
-    memset(a->free, 0, sizeof a->free);
-    c.outbid = outbid(a, ticks, draw, places);
-    for (int k = 0; k < PLACES; k++) a->records[k] = places[k].holds;
-    settle(a);
-    return c;
-}
-
-/* Round 2: every product ticked with 224 held. SCENE 0: nobody files. SCENE 1: 7 products ticked, all move to the eighth. */
-static void scene(struct auction *a, int n) {
-    memset(a, 0, sizeof *a);
-    a->phase = 1, a->products = PRODUCTS, a->bidders = BIDDERS, a->rows = 1, a->round = 2, a->decrement[0] = 100;
-    for (int p = 0; p < 8; p++) a->target[p] = 200, a->price[p] = n == 1 && p == 7 ? 10000 : 9900, a->before[p] = 10000;
-    for (int k = 0; k < PLACES; k++) a->records[k].going = n == 1 && k % 8 == 7 ? 0 : 7;
-    if (n == 1) {
-        a->filed = 0xffffffff;
-        for (int b = 0; b < BIDDERS; b++) a->bids[b * 8 + 7] = (struct line){49, {0, 0}, 1};
     }
+}
+
+/* ---- The calls */
+
+struct answer { int refused, to_file, kept, outbid; };
+
+static int draw_is_right(const uint8_t *draw, size_t length, int bidders) {
+    if (length != (size_t)bidders) return 0;
+    uint32_t seen = 0;
+    for (int i = 0; i < bidders; i++) {
+        if (draw[i] >= bidders || seen >> draw[i] & 1) return 0;
+        seen |= (uint32_t)1 << draw[i];
+    }
+    return 1;
+}
+
+static struct answer count(const uint8_t *state, size_t length) {
+    struct auction a;
+    struct sums s;
+    int n = state_number(&a, &s, state, length);
+    if (n) return (struct answer){.refused = n};
+    return (struct answer){.to_file = a.bidders - __builtin_popcount(a.filed)};
+}
+
+static struct answer calculate(uint8_t *state, size_t length, const uint8_t *draw, size_t drawn) {
+    struct auction a;
+    struct sums s;
+    struct answer done = {0};
+    int n = state_number(&a, &s, state, length);
+    if (n) return (struct answer){.refused = n};
+    if (!draw_is_right(draw, drawn, a.bidders)) return (struct answer){.refused = 14};
+    uint8_t ticks[PRODUCTS] = {0};
+    struct place places[PLACES];
+    for (int p = 0; p < a.products; p++) ticks[p] = (uint8_t)is_above(&a, &s, p);
+    accept(&a, ticks, places, &s);
+    done.kept = keep(&a, ticks, draw, places, &s);
+    deem(&a, ticks, places);
+    done.outbid = outbid(&a, ticks, draw, places, &s);
+    for (int k = 0; k < a.bidders * PRODUCTS; k++) a.record[k] = places[k].holds;
+    settle(&a, &s);
+    store(&a, state);
+    return done;
 }
 
 int main(int argc, char **argv) {
-    static struct auction start, work;
-    static uint8_t draw[BIDDERS];
-    int times = argc > 1 ? atoi(argv[1]) : 1;
-    struct counts c = {0, 0};
+    static uint8_t start[STATE], work[STATE];
+    uint8_t draw[BIDDERS];
+    struct answer done = {0};
+    if (argc != 3) return 2;
+    char letter = argv[1][0];
+    size_t length = fread(start, 1, STATE, stdin);
     for (int i = 0; i < BIDDERS; i++) draw[i] = (uint8_t)i;
-    scene(&start, argc > 2 ? atoi(argv[2]) : 0);
-    for (int i = 0; i < times; i++) {
-        work = start;
-        c = calculate(&work, draw);
+    for (int i = atoi(argv[2]); i > 0; i--) {
+        memcpy(work, start, STATE);
+        done = letter == 'c' ? count(work, length) : calculate(work, length, draw, BIDDERS);
     }
-    printf("kept %d, outbid %d, phase %d\n", c.kept, c.outbid, work.phase);
+    if (letter == 'a') fwrite(work, 1, STATE, stdout);
+    else if (done.refused) printf("refused %d\n", done.refused);
+    else if (letter == 'c') printf("still to file %d\n", done.to_file);
+    else printf("kept %d, outbid %d\n", done.kept, done.outbid);
     return 0;
 }

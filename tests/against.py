@@ -346,16 +346,18 @@ LOOK = ['count', 'report 0', 'report 1', 'result', 'show', 'calculate 0', 'calcu
 
 def spoiled_state(rnd, state):
     state = bytearray(state)
+    at = model.PLACE
     for _ in range(rnd.choice([0, 0, 1, 1, 1, 2])):
-        k = rnd.choice([rnd.randrange(13), rnd.randrange(13, 101), rnd.randrange(101, 229), rnd.randrange(229, 261), 261 + rnd.randrange(20),
-                        261 + 48 * rnd.randrange(6) + rnd.randrange(18), 1797 + 48 * rnd.randrange(6) + rnd.randrange(18),
-                        rnd.randrange(3333)])
+        k = rnd.choice([rnd.randrange(at['TARGET']), rnd.randrange(at['TARGET'], at['INITIAL']), rnd.randrange(at['INITIAL'], at['PERCENT']),
+                        rnd.randrange(at['PERCENT'], at['RECORDS']), at['RECORDS'] + rnd.randrange(20),
+                        at['RECORDS'] + 8 * at['RECORD'] * rnd.randrange(6) + rnd.randrange(3 * at['RECORD']),
+                        at['BIDS'] + 8 * at['LINE'] * rnd.randrange(6) + rnd.randrange(3 * at['LINE']), rnd.randrange(at['STATE'])])
         state[k] = rnd.choice([0, 1, 2, state[k] ^ 1, (state[k] + 1) % 256, (state[k] - 1) % 256, rnd.randrange(256), 255])
     if rnd.random() < .2:
-        state[5:7] = bytes([0, 2])  # round 2: a later round's state stands there only where nothing is kept
+        state[at['ROUND']:at['ROUND'] + 2] = bytes([0, 2])  # round 2: a later round's state stands there only where nothing is kept
     state = bytes(state)
     if rnd.random() < .05:
-        state = state[:rnd.randrange(3333)] if rnd.random() < .5 else state + bytes(rnd.randint(1, 9))
+        state = state[:rnd.randrange(at['STATE'])] if rnd.random() < .5 else state + bytes(rnd.randint(1, 9))
     return state
 
 

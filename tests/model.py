@@ -8,9 +8,13 @@ in the gate needs it. The names g, d, r, f, p, q, b, R, I, s and w are document 
 """
 import os
 import re
+import subprocess
 import sys
 
-LENGTH = 3333
+# where each number stands in the state's bytes: the constants of crates/layout
+PLACE = dict((name, int(at)) for name, at in (line.split('=') for line in subprocess.run(
+    [os.path.join(os.path.dirname(os.path.abspath(__file__)), 'layout')], capture_output=True, text=True, check=True).stdout.split()))
+LENGTH = PLACE['STATE']
 PRODUCTS, BIDDERS, ROWS = 8, 32, 8
 OPEN, CLOSED, STOPPED = 1, 2, 3
 PHASE = {0: 'issued', OPEN: 'open', CLOSED: 'closed', STOPPED: 'stopped'}

@@ -2,6 +2,7 @@
 ghost use Rattle.boxed.specs.Called.{Called};
 pub use boxed::Kind;
 use check::same;
+use layout::STATE;
 use say::line as say_line;
 use words::Cursor;
 use words::word;
@@ -108,7 +109,7 @@ fn help(line: &[u8], c: Cursor) {
 }
 
 // Answers a line. Nothing is said to an empty one, or to one that begins with #.
-pub fn answer(line: &[u8], kind: Kind, path: &[u8], state: &mut [u8; 3333])
+pub fn answer(line: &[u8], kind: Kind, path: &[u8], state: &mut [u8; STATE])
     ensures { λ _. ⌜ Called (now (state .entry)) (now (state .exit)) ⌝ }
 {
     let w = word(line, Cursor { at: 0 });

@@ -33,3 +33,7 @@ hasNumber r l k = isIncreased r l && eqb (l .priority) k
 -- increased, or numbered 0
 abbrev pub mayNumber : Record → Line → Bool
 mayNumber r l = cond (isIncreased r l) true (eqb (l .priority) 0)
+
+-- the priority number of an increased product, 1 to 8, and 0 where there is none
+abbrev pub numberOf : Record → Line → ℕ
+numberOf r l = cond (isIncreased r l && leb (l .priority) 8) (l .priority) 0

@@ -1,378 +1,217 @@
 // "Rules of a bid" of document 01: a bid is judged by numbers 8 to 13, each over all products before the next.
 // Every sum is of u16 fields, at most 8 of them, and is taken in a u32 whatever the state and the card hold.
 ghost use mathlib.Core.Path.{_≡_};
+ghost use mathlib.Core.Bool.{_&&_, cond};
 ghost use Prim.Native.Nat.{ℕ, _+_, _≤_, _<_};
-ghost use lib.Dec.{eqb};
-ghost use Rattle.rules.specs.Count.{sumUpTo, allUpTo};
-ghost use Rattle.rules.specs.Settings.{capOf};
-ghost use Rattle.rules.specs.Held.{goingIn, ticked, freeOf};
-ghost use Rattle.rules.specs.Bid.{bidIn, withdrawnIn, oneIf, reductions, increases, switches, withdrawals, overCap, wrongReduction, overEligible, wrongWithdrawn, wrongExit, increased, numbered, wellNumbered, wrongPriority, recordOf, priceAt, beforeAt, onProduct, judged, hasFiled, slotOf};
-ghost use Rattle.held.specs.Counts.{Counts};
-ghost use Rattle.bidline.specs.Lines.{mayWithdraw, mayNumber};
-use rules::Auction;
+ghost use lib.ListN.{getD};
+ghost use lib.Dec.{ltb, eqb};
+ghost use Rattle.rules.specs.Count.{allUpTo};
+ghost use Rattle.rules.specs.Units.{amountOf};
+ghost use Rattle.rules.specs.Held.{freeOf};
+ghost use Rattle.rules.specs.Bid.{recordOf, onProduct, judged, slotOf};
+ghost use Rattle.rules.specs.Layout.{loaded};
+ghost use Rattle.book.specs.Lent.{Long, Lent};
+ghost use Rattle.bids.specs.Tally.{Judging, Numbering, Small, Tallied, Numbers, onceEach, summed, keptWith};
 use rules::Line;
+use rules::Price;
+use rules::Record;
+use rules::Tranches;
 
-// ---- R, I, s, w
+// ---- One pass over the products
 
-fn reductions(a: Auction, b: usize, lines: [Line; 8]) -> u32
-    requires { ⌜ Counts a × (b < 32) ⌝ }
-    ensures { λ x. ⌜ (x ≡ reductions (a .terms .products) (recordOf a b) (onProduct lines)) × (x ≤ 524280) ⌝ }
-{
-    let m = a.terms.products as usize;
-    let mut sum: u32 = 0;
-    let mut p: usize = 0;
-    while p < m {
-        let k = b * 8 + p;
-        let r = a.records[k];
-        let l = lines[p];
-        sum += bidline::reduction(r, l);
-        p += 1;
-    }
-    sum
+// The sums of "Rules of a bid" over the products passed.
+pub struct Sums {
+    pub going: u32,
+    pub bid: u32,
+    pub reduced: u32,
+    pub increased: u32,
+    pub withdrawn: u32,
+    // How many products are increased.
+    pub rising: u32,
 }
 
-fn increases(a: Auction, b: usize, lines: [Line; 8]) -> u32
-    requires { ⌜ Counts a × (b < 32) ⌝ }
-    ensures { λ x. ⌜ (x ≡ increases (a .terms .products) (recordOf a b) (onProduct lines)) × (x ≤ 524280) ⌝ }
-{
-    let m = a.terms.products as usize;
-    let mut sum: u32 = 0;
-    let mut p: usize = 0;
-    while p < m {
-        let k = b * 8 + p;
-        let r = a.records[k];
-        let l = lines[p];
-        sum += bidline::increase(r, l);
-        p += 1;
-    }
-    sum
-}
-
-fn free(a: Auction, b: usize) -> u32
-    requires { ⌜ b < 32 ⌝ }
-    ensures { λ x. ⌜ (x ≡ freeOf a b) × (x ≤ 65535) ⌝ }
-{
-    let f = a.free[b];
-    f.0 as u32
-}
-
-// "Increases use free eligibility first; the others, s in all, are switches."
-fn switches(a: Auction, b: usize, lines: [Line; 8]) -> u32
-    requires { ⌜ Counts a × (b < 32) ⌝ }
-    ensures { λ x. ⌜ (x ≡ switches (a .terms .products) (recordOf a b) (onProduct lines) (freeOf a b)) × (x ≤ 524280) ⌝ }
-{
-    bidline::less(increases(a, b, lines), free(a, b))
-}
-
-// "Withdrawals over all products total w = sum of R - s."
-fn withdrawals(a: Auction, b: usize, lines: [Line; 8]) -> u32
-    requires { ⌜ Counts a × (b < 32) ⌝ }
-    ensures { λ x. ⌜ (x ≡ withdrawals (a .terms .products) (recordOf a b) (onProduct lines) (freeOf a b)) × (x ≤ 524280) ⌝ }
-{
-    bidline::less(reductions(a, b, lines), switches(a, b, lines))
-}
-
-// ---- 8: "some b + d + r above the product cap"
-
-fn over_cap(a: Auction, b: usize, lines: [Line; 8]) -> bool
-    requires { ⌜ Counts a × (b < 32) ⌝ }
-    ensures { λ x. ⌜ x ≡ overCap (a .terms .products) (recordOf a b) (onProduct lines) (capOf (a .terms)) ⌝ }
-{
-    let t = a.terms;
-    let m = t.products as usize;
-    let mut p: usize = 0;
-    while p < m {
-        let k = b * 8 + p;
-        let r = a.records[k];
-        let l = lines[p];
-        let item = t.item[p];
-        if !bidline::within_cap(r, l, item.cap) {
-            return true;
+impl Sums {
+    fn with(self, r: Record, l: Line) -> Sums
+        requires { ⌜ Small 8 self ⌝ }
+        ensures { λ x. ⌜ (x ≡ summed self r l) × ((m : ℕ) → Small m self → Small (m + 1) x) ⌝ }
+    {
+        Sums {
+            going: self.going + r.going.0 as u32,
+            bid: self.bid + l.tranches.0 as u32,
+            reduced: self.reduced + bidline::reduction(r, l),
+            increased: self.increased + bidline::increase(r, l),
+            withdrawn: self.withdrawn + l.withdrawn.count.0 as u32,
+            rising: self.rising + bidline::one_if_increased(r, l),
         }
-        p += 1;
     }
-    false
 }
 
-// ---- 9: "a reduction on a product that didn't tick"
+// Whether each product passed keeps the rules of 8, 9, 11 and 12; and of 13, that one not increased is numbered 0, and that each is.
+pub struct Kept {
+    pub caps: bool,
+    pub ticks: bool,
+    pub leaves: bool,
+    pub exits: bool,
+    pub others: bool,
+    pub plain: bool,
+}
 
-fn wrong_reduction(a: Auction, b: usize, lines: [Line; 8]) -> bool
-    requires { ⌜ Counts a × (b < 32) ⌝ }
-    ensures { λ x. ⌜ x ≡ wrongReduction (a .terms .products) (recordOf a b) (onProduct lines) (ticked a) ⌝ }
-{
-    let m = a.terms.products as usize;
-    let mut p: usize = 0;
-    while p < m {
-        let k = b * 8 + p;
-        let r = a.records[k];
-        let l = lines[p];
-        let tick = held::ticked(a, p);
-        if !bidline::may_reduce(tick, r, l) {
-            return true;
+impl Kept {
+    // One product more, of which the bidder has the record r and the line l, at the prices p and q.
+    fn with(self, r: Record, l: Line, cap: Tranches, tick: bool, p: Price, q: Price) -> Kept
+        ensures { λ x. ⌜ x ≡ keptWith self r l (cap .0) tick (amountOf p) (amountOf q) ⌝ }
+    {
+        Kept {
+            caps: self.caps & bidline::within_cap(r, l, cap),
+            ticks: self.ticks & bidline::may_reduce(tick, r, l),
+            leaves: self.leaves & bidline::may_withdraw(r, l),
+            exits: self.exits & bidline::exit_fits(l, p, q),
+            others: self.others & bidline::may_number(r, l),
+            plain: self.plain & (l.priority == 0),
         }
-        p += 1;
     }
-    false
 }
 
-// ---- 10: "sum of b above sum of g + f"
+pub struct Tally {
+    pub sums: Sums,
+    pub kept: Kept,
+}
 
-fn going_total(a: Auction, b: usize) -> u32
-    requires { ⌜ Counts a × (b < 32) ⌝ }
-    ensures { λ x. ⌜ (x ≡ sumUpTo (λ p. goingIn (recordOf a b p)) (a .terms .products)) × (x ≤ 524280) ⌝ }
+fn tally_of(s: &[u8], ticks: &[u8; 8], b: usize, lines: [Line; 8]) -> Tally
+    requires { ⌜ Judging (now s) (now ticks) b ⌝ }
+    ensures { λ x. ⌜ Tallied (loaded (now (s .entry)) .terms .products) (loaded (now (s .entry))) b lines (x .sums) (x .kept) ⌝ }
 {
-    let m = a.terms.products as usize;
-    let mut sum: u32 = 0;
+    let m = book::products(s);
+    let mut sums = Sums {
+        going: 0,
+        bid: 0,
+        reduced: 0,
+        increased: 0,
+        withdrawn: 0,
+        rising: 0,
+    };
+    let mut kept = Kept {
+        caps: true,
+        ticks: true,
+        leaves: true,
+        exits: true,
+        others: true,
+        plain: true,
+    };
     let mut p: usize = 0;
     while p < m {
-        let k = b * 8 + p;
-        let r = a.records[k];
-        sum += r.going.0 as u32;
+        let r = book::record(s, b * 8 + p);
+        let l = lines[p];
+        sums = sums.with(r, l);
+        kept = kept.with(
+            r,
+            l,
+            book::cap(s, p),
+            ticks[p] == 1,
+            book::price(s, p),
+            book::before(s, p),
+        );
         p += 1;
     }
-    sum
+    Tally { sums, kept }
 }
 
-fn bid_total(lines: [Line; 8], m: usize) -> u32
-    requires { ⌜ m ≤ 8 ⌝ }
-    ensures { λ x. ⌜ (x ≡ sumUpTo (λ p. bidIn (onProduct lines p)) m) × (x ≤ 524280) ⌝ }
+// ---- 13: "increased products .. numbered 1 to k once each"
+
+// How many increased products have each priority number, 1 to 8; at 0 stands what is not numbered so.
+fn numbers_of(s: &[u8], b: usize, lines: [Line; 8]) -> [u8; 9]
+    requires { ⌜ Lent (now s) × (b < 32) ⌝ }
+    ensures { λ x. ⌜ Numbers (loaded (now (s .entry)) .terms .products) (recordOf (loaded (now (s .entry))) b) (onProduct lines) x ⌝ }
 {
-    let mut sum: u32 = 0;
+    let m = book::products(s);
+    let mut counts = [0u8; 9];
     let mut p: usize = 0;
     while p < m {
         let l = lines[p];
-        sum += l.tranches.0 as u32;
+        let k = bidline::number(book::record(s, b * 8 + p), l);
+        counts[k] = counts[k] + 1;
         p += 1;
     }
-    sum
-}
-
-fn over_eligible(a: Auction, b: usize, lines: [Line; 8]) -> bool
-    requires { ⌜ Counts a × (b < 32) ⌝ }
-    ensures { λ x. ⌜ x ≡ overEligible (a .terms .products) (recordOf a b) (onProduct lines) (freeOf a b) ⌝ }
-{
-    let have = going_total(a, b) + free(a, b);
-    have < bid_total(lines, a.terms.products as usize)
-}
-
-// ---- 11: "withdrawn above R on a product, or total not w"
-
-fn withdrawn_fit(a: Auction, b: usize, lines: [Line; 8]) -> bool
-    requires { ⌜ Counts a × (b < 32) ⌝ }
-    ensures { λ x. ⌜ x ≡ allUpTo (λ p. mayWithdraw (recordOf a b p) (onProduct lines p)) (a .terms .products) ⌝ }
-{
-    let m = a.terms.products as usize;
-    let mut p: usize = 0;
-    while p < m {
-        let k = b * 8 + p;
-        let r = a.records[k];
-        let l = lines[p];
-        if !bidline::may_withdraw(r, l) {
-            return false;
-        }
-        p += 1;
-    }
-    true
-}
-
-fn withdrawn_total(lines: [Line; 8], m: usize) -> u32
-    requires { ⌜ m ≤ 8 ⌝ }
-    ensures { λ x. ⌜ (x ≡ sumUpTo (λ p. withdrawnIn (onProduct lines p)) m) × (x ≤ 524280) ⌝ }
-{
-    let mut sum: u32 = 0;
-    let mut p: usize = 0;
-    while p < m {
-        let l = lines[p];
-        sum += l.withdrawn.count.0 as u32;
-        p += 1;
-    }
-    sum
-}
-
-fn wrong_withdrawn(a: Auction, b: usize, lines: [Line; 8]) -> bool
-    requires { ⌜ Counts a × (b < 32) ⌝ }
-    ensures { λ x. ⌜ x ≡ wrongWithdrawn (a .terms .products) (recordOf a b) (onProduct lines) (freeOf a b) ⌝ }
-{
-    if !withdrawn_fit(a, b, lines) {
-        return true;
-    }
-    withdrawn_total(lines, a.terms.products as usize) != withdrawals(a, b, lines)
-}
-
-// ---- 12: "withdrawn > 0 and exit not in p < x <= q; or withdrawn = 0 and exit not 0"
-
-// What is held has no part in it: the rule is the same for every bidder.
-fn wrong_exit(a: Auction, lines: [Line; 8]) -> bool
-    requires { ⌜ Counts a ⌝ }
-    ensures { λ x. ⌜ ((b : ℕ) → x ≡ wrongExit (a .terms .products) (recordOf a b) (onProduct lines) (priceAt a) (beforeAt a)) ⌝ }
-{
-    let m = a.terms.products as usize;
-    let mut p: usize = 0;
-    while p < m {
-        let l = lines[p];
-        if !bidline::exit_fits(l, a.price[p], a.before[p]) {
-            return true;
-        }
-        p += 1;
-    }
-    false
-}
-
-// ---- 13: "s > 0 and increased products not numbered 1 to k once each, others 0; or s = 0 and a priority not 0"
-
-// How many products are increased.
-fn increased_count(a: Auction, b: usize, lines: [Line; 8]) -> u32
-    requires { ⌜ Counts a × (b < 32) ⌝ }
-    ensures { λ x. ⌜ (x ≡ sumUpTo (λ p. oneIf (increased (a .terms .products) (recordOf a b) (onProduct lines) p)) (a .terms .products)) × (x ≤ 8) ⌝ }
-{
-    let m = a.terms.products as usize;
-    let mut sum: u32 = 0;
-    let mut p: usize = 0;
-    while p < m {
-        let k = b * 8 + p;
-        let r = a.records[k];
-        let l = lines[p];
-        sum += bidline::one_if_increased(r, l);
-        p += 1;
-    }
-    sum
-}
-
-// How many increased products have this priority number.
-fn numbered(a: Auction, b: usize, lines: [Line; 8], number: u8) -> u32
-    requires { ⌜ Counts a × (b < 32) ⌝ }
-    ensures { λ x. ⌜ (x ≡ numbered (a .terms .products) (recordOf a b) (onProduct lines) number) × (x ≤ 8) ⌝ }
-{
-    let m = a.terms.products as usize;
-    let mut sum: u32 = 0;
-    let mut p: usize = 0;
-    while p < m {
-        let k = b * 8 + p;
-        let r = a.records[k];
-        let l = lines[p];
-        sum += bidline::one_if_numbered(r, l, number);
-        p += 1;
-    }
-    sum
-}
-
-// Whether every product that is not increased is numbered 0.
-fn others_zero(a: Auction, b: usize, lines: [Line; 8]) -> bool
-    requires { ⌜ Counts a × (b < 32) ⌝ }
-    ensures { λ x. ⌜ x ≡ allUpTo (λ p. mayNumber (recordOf a b p) (onProduct lines p)) (a .terms .products) ⌝ }
-{
-    let m = a.terms.products as usize;
-    let mut p: usize = 0;
-    while p < m {
-        let k = b * 8 + p;
-        let r = a.records[k];
-        let l = lines[p];
-        if !bidline::may_number(r, l) {
-            return false;
-        }
-        p += 1;
-    }
-    true
+    counts
 }
 
 // Whether each of the numbers 1 to `count` is that of just one increased product.
-fn once_each(a: Auction, b: usize, lines: [Line; 8], count: u32) -> bool
-    requires { ⌜ Counts a × ((b < 32) × (count ≤ 8)) ⌝ }
-    ensures { λ x. ⌜ x ≡ allUpTo (λ k. eqb (numbered (a .terms .products) (recordOf a b) (onProduct lines) (k + 1)) 1) count ⌝ }
+fn once_each(counts: [u8; 9], count: u32) -> bool
+    requires { ⌜ count ≤ 8 ⌝ }
+    ensures { λ x. ⌜ x ≡ allUpTo (λ k. eqb (getD counts (k + 1) 0) 1) count ⌝ }
 {
-    let mut k: u32 = 0;
-    while k < count {
-        if numbered(a, b, lines, (k + 1) as u8) != 1 {
-            return false;
-        }
+    let n = count as usize;
+    let mut ok = true;
+    let mut k: usize = 0;
+    while k < n {
+        ok = ok & (counts[k + 1] == 1);
         k += 1;
     }
-    true
-}
-
-fn well_numbered(a: Auction, b: usize, lines: [Line; 8]) -> bool
-    requires { ⌜ Counts a × (b < 32) ⌝ }
-    ensures { λ x. ⌜ x ≡ wellNumbered (a .terms .products) (recordOf a b) (onProduct lines) ⌝ }
-{
-    if !others_zero(a, b, lines) {
-        return false;
-    }
-    once_each(a, b, lines, increased_count(a, b, lines))
-}
-
-// Whether every priority is 0.
-fn no_priority(lines: [Line; 8], m: usize) -> bool
-    requires { ⌜ m ≤ 8 ⌝ }
-    ensures { λ x. ⌜ x ≡ allUpTo (λ p. eqb (onProduct lines p .priority) 0) m ⌝ }
-{
-    let mut p: usize = 0;
-    while p < m {
-        let l = lines[p];
-        if l.priority != 0 {
-            return false;
-        }
-        p += 1;
-    }
-    true
-}
-
-fn wrong_priority(a: Auction, b: usize, lines: [Line; 8]) -> bool
-    requires { ⌜ Counts a × (b < 32) ⌝ }
-    ensures { λ x. ⌜ x ≡ wrongPriority (a .terms .products) (recordOf a b) (onProduct lines) (freeOf a b) ⌝ }
-{
-    if switches(a, b, lines) > 0 {
-        return !well_numbered(a, b, lines);
-    }
-    !no_priority(lines, a.terms.products as usize)
+    ok
 }
 
 // ---- A bid in an auction
 
-// The number of the first rule that the bid breaks, or 0.
-pub fn judge(a: Auction, b: usize, lines: [Line; 8]) -> u8
-    requires { ⌜ Counts a × (b < 32) ⌝ }
-    ensures { λ x. ⌜ x ≡ judged a b lines ⌝ }
+fn free(s: &[u8], b: usize) -> u32
+    requires { ⌜ Long (now s) × (b < 32) ⌝ }
+    ensures { λ x. ⌜ (x ≡ freeOf (loaded (now (s .entry))) b) × (x ≤ 65535) ⌝ }
 {
-    if over_cap(a, b, lines) {
-        return 8;
-    }
-    if wrong_reduction(a, b, lines) {
-        return 9;
-    }
-    if over_eligible(a, b, lines) {
-        return 10;
-    }
-    if wrong_withdrawn(a, b, lines) {
-        return 11;
-    }
-    if wrong_exit(a, lines) {
-        return 12;
-    }
-    if wrong_priority(a, b, lines) {
-        return 13;
-    }
-    0
+    let f = book::free(s, b);
+    f.0 as u32
 }
 
-// "A bitmap marks who has filed."
-pub fn has_filed(a: Auction, b: usize) -> bool
-    requires { ⌜ b < 32 ⌝ }
-    ensures { λ x. ⌜ x ≡ hasFiled a b ⌝ }
+// 13: where s is 0 every priority is 0; else "increased products .. numbered 1 to k once each, others 0".
+fn priorities_fit(s: &[u8], b: usize, lines: [Line; 8], t: Tally, switches: u32) -> bool
+    requires { ⌜ Numbering (now s) b (t .sums .rising) ⌝ }
+    ensures { λ x. ⌜ x ≡ cond (ltb 0 switches) (t .kept .others && onceEach (loaded (now (s .entry))) b lines (t .sums .rising)) (t .kept .plain) ⌝ }
 {
-    (a.filed >> b) & 1 == 1
+    let x = t.sums;
+    let y = t.kept;
+    if switches == 0 {
+        return y.plain;
+    }
+    y.others & once_each(numbers_of(s, b, lines), x.rising)
+}
+
+// The number where the rule is broken, else what the later rules say.
+fn refuse(broken: bool, number: u8, later: u8) -> u8
+    ensures { λ r. ⌜ r ≡ cond broken number later ⌝ }
+{
+    if broken { number } else { later }
+}
+
+// The number of the first rule that the bid breaks, or 0.
+pub fn judge(s: &[u8], ticks: &[u8; 8], b: usize, lines: [Line; 8]) -> u8
+    requires { ⌜ Judging (now s) (now ticks) b ⌝ }
+    ensures { λ x. ⌜ x ≡ judged (loaded (now (s .entry))) b lines ⌝ }
+{
+    let t = tally_of(s, ticks, b, lines);
+    let x = t.sums;
+    let y = t.kept;
+    let f = free(s, b);
+    // "Increases use free eligibility first; the others, s in all, are switches."
+    let switches = bidline::less(x.increased, f);
+    // "Withdrawals over all products total w = sum of R - s."
+    let w = bidline::less(x.reduced, switches);
+    let fit = priorities_fit(s, b, lines, t, switches);
+    let from13 = refuse(!fit, 13, 0);
+    let from12 = refuse(!y.exits, 12, from13);
+    let from11 = refuse(!(y.leaves & (x.withdrawn == w)), 11, from12);
+    let from10 = refuse(x.going + f < x.bid, 10, from11);
+    let from9 = refuse(!y.ticks, 9, from10);
+    refuse(!y.caps, 8, from9)
 }
 
 // The lines that the bidder has filed.
-pub fn slot(a: Auction, b: usize) -> [Line; 8]
-    requires { ⌜ b < 32 ⌝ }
-    ensures { λ x. ⌜ x ≡ slotOf a b ⌝ }
+pub fn slot(s: &[u8], b: usize) -> [Line; 8]
+    requires { ⌜ Long (now s) × (b < 32) ⌝ }
+    ensures { λ x. ⌜ x ≡ slotOf (loaded (now (s .entry))) b ⌝ }
 {
     let none = Line::none();
     let mut lines = [none; 8];
     let mut p: usize = 0;
     while p < 8 {
-        let k = b * 8 + p;
-        lines[p] = a.bids[k];
+        lines[p] = book::line(s, b * 8 + p);
         p += 1;
     }
     lines

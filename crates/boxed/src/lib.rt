@@ -1,6 +1,7 @@
 // Where the state lives, and what is done with a state that a call has changed.
 ghost use mathlib.Core.Bool.{cond};
 ghost use mathlib.Core.Path.{_≡_};
+use layout::STATE;
 use rules::Report;
 use say::line;
 use store::Saved;
@@ -21,7 +22,7 @@ pub fn is_wrong(kind: Kind) -> bool {
     }
 }
 
-fn saved(path: &[u8], work: &[u8; 3333]) -> bool {
+fn saved(path: &[u8], work: &[u8; STATE]) -> bool {
     match store::save(path, work) {
         Saved::Done => return true,
         Saved::LongName => line(
@@ -41,7 +42,7 @@ fn saved(path: &[u8], work: &[u8; 3333]) -> bool {
 }
 
 // Saves a changed state where there is a box file, and keeps it only then: what is in memory is what is in the file.
-pub fn keep(kind: Kind, path: &[u8], state: &mut [u8; 3333], work: [u8; 3333]) -> bool
+pub fn keep(kind: Kind, path: &[u8], state: &mut [u8; STATE], work: [u8; STATE]) -> bool
     ensures { λ r. ⌜ now (state .exit) ≡ cond r work (now (state .entry)) ⌝ }
 {
     match kind {
@@ -75,7 +76,7 @@ fn said_of(s: &[u8]) -> u8 {
     n
 }
 
-pub fn number_on(kind: Kind, state: &[u8; 3333]) -> u8 {
+pub fn number_on(kind: Kind, state: &[u8; STATE]) -> u8 {
     if is_wrong(kind) {
         let other = [0u8; 1];
         return said_of(&other);

@@ -14,6 +14,7 @@ use boxed::Kind;
 use boxed::is_wrong;
 use boxed::keep;
 use boxed::number_on;
+use layout::STATE;
 use rules::Answer;
 use rules::Award;
 use rules::Awarded;
@@ -32,7 +33,7 @@ use words::Cursor;
 
 // ---- `open` and `return`
 
-fn done(kind: Kind, path: &[u8], state: &mut [u8; 3333], work: [u8; 3333])
+fn done(kind: Kind, path: &[u8], state: &mut [u8; STATE], work: [u8; STATE])
     ensures { λ _. ⌜ (Called (now (state .entry)) work → Called (now (state .entry)) (now (state .exit))) ⌝ }
 {
     if keep(kind, path, state, work) {
@@ -40,7 +41,7 @@ fn done(kind: Kind, path: &[u8], state: &mut [u8; 3333], work: [u8; 3333])
     }
 }
 
-fn open_on(kind: Kind, work: &mut [u8; 3333], settings: Settings) -> Answer
+fn open_on(kind: Kind, work: &mut [u8; STATE], settings: Settings) -> Answer
     ensures { λ _. ⌜ Called (now (work .entry)) (now (work .exit)) ⌝ }
 {
     if is_wrong(kind) {
@@ -50,7 +51,7 @@ fn open_on(kind: Kind, work: &mut [u8; 3333], settings: Settings) -> Answer
     console::open(work, settings)
 }
 
-pub fn open(line: &[u8], c: Cursor, kind: Kind, path: &[u8], state: &mut [u8; 3333])
+pub fn open(line: &[u8], c: Cursor, kind: Kind, path: &[u8], state: &mut [u8; STATE])
     ensures { λ _. ⌜ Called (now (state .entry)) (now (state .exit)) ⌝ }
 {
     let asked = asked::settings(line, c);
@@ -64,7 +65,7 @@ pub fn open(line: &[u8], c: Cursor, kind: Kind, path: &[u8], state: &mut [u8; 33
     }
 }
 
-fn return_on(kind: Kind, work: &mut [u8; 3333]) -> Answer
+fn return_on(kind: Kind, work: &mut [u8; STATE]) -> Answer
     ensures { λ _. ⌜ Called (now (work .entry)) (now (work .exit)) ⌝ }
 {
     if is_wrong(kind) {
@@ -74,7 +75,7 @@ fn return_on(kind: Kind, work: &mut [u8; 3333]) -> Answer
     console::return_box(work)
 }
 
-pub fn return_box(line: &[u8], c: Cursor, kind: Kind, path: &[u8], state: &mut [u8; 3333])
+pub fn return_box(line: &[u8], c: Cursor, kind: Kind, path: &[u8], state: &mut [u8; STATE])
     ensures { λ _. ⌜ Called (now (state .entry)) (now (state .exit)) ⌝ }
 {
     if ends(line, c) {
@@ -88,7 +89,7 @@ pub fn return_box(line: &[u8], c: Cursor, kind: Kind, path: &[u8], state: &mut [
 
 // ---- `count`
 
-fn count_on(kind: Kind, state: &[u8; 3333]) -> Count {
+fn count_on(kind: Kind, state: &[u8; STATE]) -> Count {
     if is_wrong(kind) {
         let other = [0u8; 1];
         return console::count(&other);
@@ -104,7 +105,7 @@ fn say_number(n: u32) {
     send(&out, b);
 }
 
-pub fn count(line: &[u8], c: Cursor, kind: Kind, state: &[u8; 3333]) {
+pub fn count(line: &[u8], c: Cursor, kind: Kind, state: &[u8; STATE]) {
     if ends(line, c) {
         match count_on(kind, state) {
             Count::ToFile(n) => say_number(n),
@@ -124,7 +125,7 @@ fn drawn(state: &mut [u8], draw: &[u8], k: usize) -> Calculation
     console::calculate(state, draw)
 }
 
-fn calculate_on(kind: Kind, work: &mut [u8; 3333], draw: &[u8; 40], k: usize) -> Calculation
+fn calculate_on(kind: Kind, work: &mut [u8; STATE], draw: &[u8; 40], k: usize) -> Calculation
     ensures { λ _. ⌜ Called (now (work .entry)) (now (work .exit)) ⌝ }
 {
     if is_wrong(kind) {
@@ -142,7 +143,7 @@ fn calculated(kept: u32, outbid: u32) {
     send(&out, c);
 }
 
-pub fn calculate(line: &[u8], c: Cursor, kind: Kind, path: &[u8], state: &mut [u8; 3333])
+pub fn calculate(line: &[u8], c: Cursor, kind: Kind, path: &[u8], state: &mut [u8; STATE])
     ensures { λ _. ⌜ Called (now (state .entry)) (now (state .exit)) ⌝ }
 {
     let mut numbers = [0u32; 40];
@@ -181,7 +182,7 @@ pub fn suggest(line: &[u8], c: Cursor) {
 
 // ---- `cutback T C ..`
 
-fn cutback_on(work: &mut [u8; 3333], revised: Revised) -> Answer
+fn cutback_on(work: &mut [u8; STATE], revised: Revised) -> Answer
     ensures { λ _. ⌜ Called (now (work .entry)) (now (work .exit)) ⌝ }
 {
     let targets = revised.targets;
@@ -189,7 +190,7 @@ fn cutback_on(work: &mut [u8; 3333], revised: Revised) -> Answer
     console::cutback(work, targets, caps)
 }
 
-fn cut(kind: Kind, path: &[u8], state: &mut [u8; 3333], revised: Revised)
+fn cut(kind: Kind, path: &[u8], state: &mut [u8; STATE], revised: Revised)
     ensures { λ _. ⌜ Called (now (state .entry)) (now (state .exit)) ⌝ }
 {
     let mut work = *state;
@@ -199,7 +200,7 @@ fn cut(kind: Kind, path: &[u8], state: &mut [u8; 3333], revised: Revised)
     }
 }
 
-pub fn cutback(line: &[u8], c: Cursor, kind: Kind, path: &[u8], state: &mut [u8; 3333])
+pub fn cutback(line: &[u8], c: Cursor, kind: Kind, path: &[u8], state: &mut [u8; STATE])
     ensures { λ _. ⌜ Called (now (state .entry)) (now (state .exit)) ⌝ }
 {
     let mut numbers = [0u32; 40];
@@ -210,8 +211,7 @@ pub fn cutback(line: &[u8], c: Cursor, kind: Kind, path: &[u8], state: &mut [u8;
     // 1, 2 and 3 go before the number of pairs, as with a bid
     match count_on(kind, state) {
         Count::ToFile(_) => {
-            let a = state::load(state);
-            let products = a.terms.products as usize;
+            let products = book::products(state);
             if k == products {
                 cut(kind, path, state, revised_of(numbers));
             } else {
@@ -224,7 +224,7 @@ pub fn cutback(line: &[u8], c: Cursor, kind: Kind, path: &[u8], state: &mut [u8;
 
 // ---- `report B`
 
-fn report_on(kind: Kind, state: &[u8; 3333], b: u8) -> Reported {
+fn report_on(kind: Kind, state: &[u8; STATE], b: u8) -> Reported {
     if is_wrong(kind) {
         let other = [0u8; 1];
         return console::report(&other, b);
@@ -232,21 +232,20 @@ fn report_on(kind: Kind, state: &[u8; 3333], b: u8) -> Reported {
     console::report(state, b)
 }
 
-fn reported(state: &[u8; 3333], given: Reported) {
+fn reported(state: &[u8; STATE], given: Reported) {
     let report = given.report;
     match report {
         Report::Given { free, phase, range } => {
             told::report(free, phase, range);
             let records = given.records;
             let prices = given.prices;
-            let a = state::load(state);
-            told::holdings(records, prices, a.terms.products as usize);
+            told::holdings(records, prices, book::products(state));
         }
         Report::Refused(n) => told::refused_report(n),
     }
 }
 
-pub fn report(line: &[u8], c: Cursor, kind: Kind, state: &[u8; 3333]) {
+pub fn report(line: &[u8], c: Cursor, kind: Kind, state: &[u8; STATE]) {
     let One::Number(b, next) = one_number(line, c) else {
         return;
     };
@@ -257,7 +256,7 @@ pub fn report(line: &[u8], c: Cursor, kind: Kind, state: &[u8; 3333]) {
 
 // ---- `result`
 
-fn result_on(kind: Kind, state: &[u8; 3333]) -> Awarded {
+fn result_on(kind: Kind, state: &[u8; STATE]) -> Awarded {
     if is_wrong(kind) {
         let other = [0u8; 1];
         return console::result(&other);
@@ -265,23 +264,22 @@ fn result_on(kind: Kind, state: &[u8; 3333]) -> Awarded {
     console::result(state)
 }
 
-fn awarded(state: &[u8; 3333], given: Awarded) {
+fn awarded(state: &[u8; STATE], given: Awarded) {
     let award = given.award;
     match award {
         Award::Given => {
             say_line(b"ok\n");
             let tranches = given.tranches;
             let prices = given.prices;
-            let a = state::load(state);
-            let products = a.terms.products as usize;
+            let products = book::products(state);
             told::final_prices(prices, products);
-            told::awards(tranches, a.terms.bidders as usize, products);
+            told::awards(tranches, book::bidders(state), products);
         }
         Award::Refused(n) => refused(n),
     }
 }
 
-pub fn result(line: &[u8], c: Cursor, kind: Kind, state: &[u8; 3333]) {
+pub fn result(line: &[u8], c: Cursor, kind: Kind, state: &[u8; STATE]) {
     if ends(line, c) {
         awarded(state, result_on(kind, state));
     }
@@ -289,7 +287,7 @@ pub fn result(line: &[u8], c: Cursor, kind: Kind, state: &[u8; 3333]) {
 
 // ---- `show`
 
-pub fn show(line: &[u8], c: Cursor, kind: Kind, state: &[u8; 3333]) {
+pub fn show(line: &[u8], c: Cursor, kind: Kind, state: &[u8; STATE]) {
     if ends(line, c) {
         let n = number_on(kind, state);
         if n == 3 {
@@ -300,6 +298,6 @@ pub fn show(line: &[u8], c: Cursor, kind: Kind, state: &[u8; 3333]) {
             refused(n);
             return;
         }
-        view::show(state::load(state));
+        view::show(state);
     }
 }

@@ -11,6 +11,7 @@ use boxed::Kind;
 use boxed::is_wrong;
 use boxed::keep;
 use boxed::number_on;
+use layout::STATE;
 use rules::Answer;
 use rules::Card;
 use rules::CardRead;
@@ -56,7 +57,7 @@ fn file_part(state: &mut [u8], card: &[u8], n: usize) -> Answer
     console::file(state, card)
 }
 
-fn file_on(kind: Kind, work: &mut [u8; 3333], card: &[u8; 1024], n: usize) -> Answer
+fn file_on(kind: Kind, work: &mut [u8; STATE], card: &[u8; 1024], n: usize) -> Answer
     ensures { λ _. ⌜ Called (now (work .entry)) (now (work .exit)) ⌝ }
 {
     if is_wrong(kind) {
@@ -66,7 +67,7 @@ fn file_on(kind: Kind, work: &mut [u8; 3333], card: &[u8; 1024], n: usize) -> An
     file_part(work, card, n)
 }
 
-pub fn file(line: &[u8], c: Cursor, kind: Kind, path: &[u8], state: &mut [u8; 3333])
+pub fn file(line: &[u8], c: Cursor, kind: Kind, path: &[u8], state: &mut [u8; STATE])
     ensures { λ _. ⌜ Called (now (state .entry)) (now (state .exit)) ⌝ }
 {
     let mut card = [0u8; 1024];
@@ -172,13 +173,13 @@ pub fn read(line: &[u8], c: Cursor) {
 
 // ---- `bid B T W X P ..`
 
-fn file_written(work: &mut [u8; 3333], card: &[u8; 39], n: usize) -> Answer
+fn file_written(work: &mut [u8; STATE], card: &[u8; 39], n: usize) -> Answer
     ensures { λ _. ⌜ Called (now (work .entry)) (now (work .exit)) ⌝ }
 {
     file_part(work, card, n)
 }
 
-fn filed(kind: Kind, path: &[u8], state: &mut [u8; 3333], card: &[u8; 39], n: usize)
+fn filed(kind: Kind, path: &[u8], state: &mut [u8; STATE], card: &[u8; 39], n: usize)
     ensures { λ _. ⌜ Called (now (state .entry)) (now (state .exit)) ⌝ }
 {
     let mut work = *state;
@@ -193,21 +194,20 @@ fn filed(kind: Kind, path: &[u8], state: &mut [u8; 3333], card: &[u8; 39], n: us
 }
 
 // The number of products that a bid of the present round must have; 0 where there is none to be filed, and its number is said.
-fn products_of(kind: Kind, state: &[u8; 3333]) -> usize {
+fn products_of(kind: Kind, state: &[u8; STATE]) -> usize {
     let n = number_on(kind, state);
     if n != 0 {
         refused(n);
         return 0;
     }
-    let a = state::load(state);
-    if a.phase != 1 {
+    if book::phase(state) != 1 {
         refused(3);
         return 0;
     }
-    a.terms.products as usize
+    book::products(state)
 }
 
-pub fn bid(line: &[u8], c: Cursor, kind: Kind, path: &[u8], state: &mut [u8; 3333])
+pub fn bid(line: &[u8], c: Cursor, kind: Kind, path: &[u8], state: &mut [u8; STATE])
     ensures { λ _. ⌜ Called (now (state .entry)) (now (state .exit)) ⌝ }
 {
     let One::Number(bidder, next) = one_number(line, c) else {
@@ -226,10 +226,10 @@ pub fn bid(line: &[u8], c: Cursor, kind: Kind, path: &[u8], state: &mut [u8; 333
         other_groups(line, next, products);
         return;
     }
-    let a = state::load(state);
+    let round = book::round(state);
     let lines = lines_of(numbers);
     let mut room = [0u8; 39];
-    match write_to(&mut room, products, one_byte(bidder), a.round, lines) {
+    match write_to(&mut room, products, one_byte(bidder), round, lines) {
         Answer::Done => filed(kind, path, state, &room, card_length(products)),
         Answer::Refused(x) => refused(x),
     }

@@ -7,36 +7,17 @@ use native.Mathlib.Omega.{arith}
 use borrow.Author.Tests.{ltb-true}
 use lib.Count.{ones}
 use lib.Dec.{ltb}
-use Rattle.rules.specs.Held.{goingIn, place}
-use Rattle.rules.specs.Bid.{recordOf}
+use Rattle.rules.specs.declared.Tranches.{Tranches}
+use Rattle.rules.specs.Standing.{isOpen}
+use Rattle.rules.specs.Cutback.{mayCut}
 use Rattle.rules.specs.Layout.{loaded}
-use Rattle.rules.specs.Calls.{bidderNumber}
-use Rattle.rules.proofs.Sums.{sum-le}
-use Rattle.rules.proofs.Priorities.{sum-const}
+use Rattle.rules.specs.Calls.{bidderNumber, cutNumber}
 use Rattle.rules.proofs.Storing.{Bytes, loaded-bits}
-use Rattle.rules.proofs.Fitting.{bidder-small, record-small}
-use Rattle.reports.specs.Awards.{Awardable}
-use Rattle.cutback.specs.Cuttable.{Room, Cuttable}
-use Rattle.numbers.proofs.StateLaws.{Stood, counts}
+use Rattle.cutback.specs.Cuttable.{Cutting}
+use Rattle.numbers.proofs.StateLaws.{Stood}
 use Rattle.console.proofs.Counting.{few-filed}
 
 module _ (s : List ℕ) where
-  pub awardable : Stood s → Awardable (loaded s)
-  awardable S = record { small = λ k h. omega (arith, record-small (loaded s) (S .stood) k h .0) }
-
-  room : Stood s → let a = loaded s in Room (a .free) (a .records) (a .terms .products)
-  room S = record {
-    each = λ b h.
-        let a = loaded s in
-        let m = S .stood .limits .products in
-        let r = sum-le (λ p. goingIn (recordOf a b p)) (λ p. 200) (a .terms .products)
-        (λ p l. omega (arith, record-small a (S .stood) (place b p) (omega arith) .0)) in
-        omega (arith, sum-const 200 (a .terms .products), bidder-small a (S .stood) b h);
-  }
-
-  pub cuttable : Stood s → Cuttable (loaded s)
-  cuttable S = record { counts = counts s S; rows = S .stood .limits .rows; room = room S }
-
   pub few : Stood s → Bytes s → ones (loaded s .filed) ≤ loaded s .terms .bidders
   few S B = few-filed (loaded s) (S .stood) (loaded-bits s B)
 
@@ -47,3 +28,19 @@ module _ (s : List ℕ) where
   -- a bidder who is given a report is one in use
   pub bidder-in-use : (b : ℕ) → bidderNumber b (loaded s) ≡ 0 → b < loaded s .terms .bidders
   bidder-in-use b e = ltb-true b (loaded s .terms .bidders) (bidder-by (ltb b (loaded s .terms .bidders)) _ e)
+
+  may-by : (t u : Bool) → _≡_ {A = ℕ} (cond t (cond u 0 20) 3) 0 → (t ≡ true) × (u ≡ true)
+  may-by true true e = (refl, refl)
+  may-by true false e = absurd (let z : ⊥ = omega arith in z)
+  may-by false u e = absurd (let z : ⊥ = omega arith in z)
+
+  -- what a cutback that is not refused asks
+  pub cutting : (targets caps : List Tranches) → Bytes s → Stood s → cutNumber targets caps (loaded s) ≡ 0 → Cutting s targets caps
+  cutting targets caps B S e =
+      let m = may-by (isOpen (loaded s)) (mayCut (loaded s) targets caps) e in record {
+        long = S .long;
+        stands = S .stood;
+        bits = loaded-bits s B;
+        bidding = m .0;
+        may = m .1;
+      }

@@ -1,6 +1,6 @@
 pub mod Answering
-pub mod Largest
 pub mod Counting
 pub mod Opening
+pub mod Filing
 pub mod Fitting
 pub mod Rounds

@@ -3,39 +3,49 @@ use mathlib.Core.Path.{_≡_, refl, _∙_, ap}
 use mathlib.Core.Bool.{true, false}
 use mathlib.Core.List.{List}
 use Prim.Native.Nat.{ℕ}
-use borrow.Author.Tests.{eq-eqb, ne-eqb}
-use lib.ListN.{length, replicate}
+use native.Mathlib.Omega.{arith}
+use borrow.Author.Tests.{eqb-true, eq-eqb, ne-eqb}
+use lib.ListN.{length, getD, replicate}
+use lib.Dec.{eqb}
 use Rattle.rules.specs.declared.Answer.the-variants.{Done, Refused}
 use Rattle.rules.specs.declared.Settings.{Settings}
 use Rattle.rules.specs.Settings.{settingsFit, termsOf}
-use Rattle.rules.specs.Layout.{stored, allZero}
+use Rattle.rules.specs.Layout.{stored, allZero, stateLength}
 use Rattle.rules.specs.Calls.{opened, openCall, returnCall}
+use Rattle.rules.proofs.Lists.{all-take, list-is}
+use Rattle.rules.proofs.Fill.{list-same}
 use Rattle.console.proofs.Answering.{Gives}
 
 module _ (s : List ℕ) (x : Settings) where
-  pub open-1 : (length s ≡ 3333 → ⊥) → Gives (openCall s x) (Refused 1) s
+  pub open-1 : (length s ≡ stateLength → ⊥) → Gives (openCall s x) (Refused 1) s
   unfolding openCall
-  open-1 l = rw (ne-eqb (length s) 3333 l) (refl, refl)
+  open-1 l = rw (ne-eqb (length s) stateLength l) (refl, refl)
 
-  module _ (l : length s ≡ 3333) where
+  module _ (l : length s ≡ stateLength) where
     pub open-17 : allZero s ≡ false → Gives (openCall s x) (Refused 17) s
     unfolding openCall
-    open-17 z = rw (eq-eqb (length s) 3333 l, z) (refl, refl)
+    open-17 z = rw (eq-eqb (length s) stateLength l, z) (refl, refl)
 
     module _ (z : allZero s ≡ true) where
       pub open-15 : settingsFit x ≡ false → Gives (openCall s x) (Refused 15) s
       unfolding openCall
-      open-15 f = rw (eq-eqb (length s) 3333 l, z, f) (refl, refl)
+      open-15 f = rw (eq-eqb (length s) stateLength l, z, f) (refl, refl)
 
       pub open-done : settingsFit x ≡ true → (t : List ℕ) → t ≡ stored (opened (termsOf x)) → Gives (openCall s x) Done t
       unfolding openCall
-      open-done f t e = rw (eq-eqb (length s) 3333 l, z, f) (refl, e)
+      open-done f t e = rw (eq-eqb (length s) stateLength l, z, f) (refl, e)
 
 module _ (s : List ℕ) where
-  pub return-1 : (length s ≡ 3333 → ⊥) → Gives (returnCall s) (Refused 1) s
+  pub return-1 : (length s ≡ stateLength → ⊥) → Gives (returnCall s) (Refused 1) s
   unfolding returnCall
-  return-1 l = rw (ne-eqb (length s) 3333 l) (refl, refl)
+  return-1 l = rw (ne-eqb (length s) stateLength l) (refl, refl)
 
-  pub return-done : length s ≡ 3333 → (t : List ℕ) → t ≡ replicate (length s) 0 → Gives (returnCall s) Done t
+  pub return-done : length s ≡ stateLength → (t : List ℕ) → t ≡ replicate (length s) 0 → Gives (returnCall s) Done t
   unfolding returnCall
-  return-done l t e = rw (eq-eqb (length s) 3333 l) (refl, e ∙ ap (λ n. replicate n 0) l)
+  return-done l t e = rw (eq-eqb (length s) stateLength l) (refl, e ∙ ap (λ n. replicate n 0) l)
+
+-- bytes that are all zero
+pub zeros : (s : List ℕ) → length s ≡ stateLength → allZero s ≡ true → s ≡ replicate stateLength 0
+zeros s l z =
+    list-is (λ i. 0) 0 stateLength s l (λ i h. eqb-true _ 0 (all-take (λ i. eqb (getD s i 0) 0) (length s) z i (omega arith)))
+    ∙ list-same 0 stateLength

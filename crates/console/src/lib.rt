@@ -3,6 +3,7 @@
 // contract; any two outcomes that have it coincide (rules/OneCall: leaves-one, gives-one).
 ghost use Rattle.rules.specs.Answers.{Leaves, Gives};
 ghost use Rattle.rules.specs.Calls.{openCall, fileCall, countCall, calculateCall, cutbackCall, reportCall, resultCall, returnCall, readCall, writeCall, suggestedCall};
+use layout::STATE;
 use rules::Answer;
 use rules::Awarded;
 use rules::Calculation;
@@ -18,7 +19,7 @@ use rules::Volume;
 pub fn open(s: &mut [u8], given: Settings) -> Answer
     ensures { λ r. ⌜ Leaves (openCall (now (s .entry)) given) r (now (s .exit)) ⌝ }
 {
-    if s.len() != 3333 {
+    if s.len() != STATE {
         return Answer::Refused(1);
     }
     if !state::is_zero(s) {
@@ -27,8 +28,7 @@ pub fn open(s: &mut [u8], given: Settings) -> Answer
     if !opening::settings_fit(given) {
         return Answer::Refused(15);
     }
-    let terms = opening::terms_of(given);
-    state::store(opening::opened(terms), s);
+    storing::opened(s, opening::terms_of(given));
     Answer::Done
 }
 
@@ -36,12 +36,14 @@ pub fn open(s: &mut [u8], given: Settings) -> Answer
 pub fn file(s: &mut [u8], card: &[u8]) -> Answer
     ensures { λ r. ⌜ Leaves (fileCall (now (s .entry)) (now (card .entry))) r (now (s .exit)) ⌝ }
 {
-    let n = numbers::file_number(s, card);
+    let n = numbers::state_number(s);
     if n != 0 {
         return Answer::Refused(n);
     }
-    let a = state::load(s);
-    state::store(filing::after_card(a, card), s);
+    let k = filing::file_card(s, card);
+    if k != 0 {
+        return Answer::Refused(k);
+    }
     Answer::Done
 }
 
@@ -53,8 +55,7 @@ pub fn count(s: &[u8]) -> Count
     if n != 0 {
         return Count::Refused(n);
     }
-    let a = state::load(s);
-    let still = a.terms.bidders as u32 - u32::count_ones(a.filed);
+    let still = book::bidders(s) as u32 - u32::count_ones(book::filed(s));
     Count::ToFile(still)
 }
 
@@ -66,9 +67,7 @@ pub fn calculate(s: &mut [u8], draw: &[u8]) -> Calculation
     if n != 0 {
         return Calculation::Refused(n);
     }
-    let done = round::calculate(state::load(s), draw);
-    let a = done.auction;
-    state::store(a, s);
+    let done = round::calculate(s, draw);
     Calculation::Done {
         kept: done.kept,
         outbid: done.outbid,
@@ -83,8 +82,7 @@ pub fn cutback(s: &mut [u8], targets: [Tranches; 8], caps: [Tranches; 8]) -> Ans
     if n != 0 {
         return Answer::Refused(n);
     }
-    let a = state::load(s);
-    state::store(cutback::cut_back(a, targets, caps), s);
+    cutback::cut_back(s, targets, caps);
     Answer::Done
 }
 
@@ -96,7 +94,7 @@ pub fn report(s: &[u8], bidder: u8) -> Reported
     if n != 0 {
         return reports::refused_report(n);
     }
-    reports::report_on(state::load(s), bidder as usize)
+    reports::report_on(s, bidder as usize)
 }
 
 // Give the result: 1, 2, 16.
@@ -107,7 +105,7 @@ pub fn result(s: &[u8]) -> Awarded
     if n != 0 {
         return reports::refused_result(n);
     }
-    reports::result_of(state::load(s))
+    reports::result_of(s)
 }
 
 // Return the box: 1; any state of the right length is left all zero, as first issued.
@@ -115,7 +113,7 @@ pub fn return_box(s: &mut [u8]) -> Answer
     ensures { λ r. ⌜ Leaves (returnCall (now (s .entry))) r (now (s .exit)) ⌝ }
 {
     let long = s.len();
-    if long != 3333 {
+    if long != STATE {
         return Answer::Refused(1);
     }
     state::clear(s);

@@ -1,2 +1,2 @@
-pub mod Changed
+pub mod Laws
 pub mod Sums

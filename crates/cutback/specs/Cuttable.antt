@@ -1,31 +1,32 @@
--- An auction in which every bidder's free eligibility has room for what a cutback takes off. Assumes nothing.
+-- What a cutback asks of the lent state. Assumes nothing.
+use mathlib.Core.Path.{_≡_}
+use mathlib.Core.Bool.{true}
 use mathlib.Core.List.{List}
-use Prim.Native.Nat.{ℕ, _+_, _-_, _≤_, _<_}
-use lib.ListN.{getD}
+use Prim.Native.Nat.{ℕ, _+_, _≤_, _<_}
 use Rattle.rules.specs.declared.Tranches.{Tranches}
-use Rattle.rules.specs.declared.Record.{Record}
 use Rattle.rules.specs.declared.Auction.{Auction}
 use Rattle.rules.specs.Count.{sumUpTo}
-use Rattle.rules.specs.Units.{tranches}
-use Rattle.rules.specs.Held.{goingIn, recordAt, place}
-use Rattle.rules.specs.Cutback.{givenFor}
-use Rattle.held.specs.Counts.{Counts}
+use Rattle.rules.specs.Held.{goingIn, freeOf}
+use Rattle.rules.specs.Bid.{recordOf}
+use Rattle.rules.specs.Standing.{isOpen}
+use Rattle.rules.specs.Stands.{Stands}
+use Rattle.rules.specs.Cutback.{mayCut}
+use Rattle.rules.specs.Layout.{loaded}
+use Rattle.book.specs.Lent.{Long, Lent}
 
-abbrev pub freeIn : List Tranches → ℕ → ℕ
-freeIn free b = getD free b (tranches 0) .0
+-- what bidder b has at the going prices
+abbrev pub goingBy : Auction → ℕ → ℕ
+goingBy a b = sumUpTo (λ p. goingIn (recordOf a b p)) (a .terms .products)
 
--- what bidder b has at the going prices on the first m products
-abbrev pub goingBy : List Record → ℕ → ℕ → ℕ
-goingBy records m b = sumUpTo (λ p. goingIn (recordAt records (place b p))) m
+-- every bidder's free eligibility has room for what a cutback takes off
+pub record Cuttable (s : List ℕ) : Type 0 where
+  pub lent : Lent s
+  pub room : (b : ℕ) → b < 32 → freeOf (loaded s) b + goingBy (loaded s) b ≤ 65535
 
--- and above the caps
-abbrev pub aboveBy : List Record → List Tranches → ℕ → ℕ → ℕ
-aboveBy records caps m b = sumUpTo (λ p. goingIn (recordAt records (place b p)) - givenFor caps p) m
-
-pub record Room (free : List Tranches) (records : List Record) (m : ℕ) : Type 0 where
-  pub each : (b : ℕ) → b < 32 → freeIn free b + goingBy records m b ≤ 65535
-
-pub record Cuttable (a : Auction) : Type 0 where
-  pub counts : Counts a
-  pub rows : a .terms .rows ≤ 8
-  pub room : Room (a .free) (a .records) (a .terms .products)
+-- a standing state that these targets and caps may cut back
+pub record Cutting (s : List ℕ) (targets caps : List Tranches) : Type 0 where
+  pub long : Long s
+  pub stands : Stands (loaded s)
+  pub bits : loaded s .filed < 4294967296
+  pub bidding : isOpen (loaded s) ≡ true
+  pub may : mayCut (loaded s) targets caps ≡ true

@@ -2,22 +2,27 @@
 ghost use mathlib.Core.Path.{_≡_};
 ghost use mathlib.Core.Bool.{true, cond};
 ghost use Prim.Native.Nat.{_+_, _-_, _%_, _≤_, _<_};
-ghost use lib.ListN.{getD};
+ghost use lib.ListN.{length};
 ghost use lib.Dec.{leb, eqb};
 ghost use Rattle.rules.specs.Count.{sumUpTo, allUpTo, listOf};
-ghost use Rattle.rules.specs.Units.{tranches};
-ghost use Rattle.rules.specs.Settings.{item, noItem};
-ghost use Rattle.rules.specs.Held.{recordAt, setTo};
-ghost use Rattle.rules.specs.Cutback.{givenFor, numbersFit, mayCut, revised, reduced, cutBack};
+ghost use Rattle.rules.specs.Units.{tranches, quote};
+ghost use Rattle.rules.specs.Settings.{startOf};
+ghost use Rattle.rules.specs.Held.{recordAt, setTo, freeOf};
+ghost use Rattle.rules.specs.Accept.{at};
+ghost use Rattle.rules.specs.Cutback.{givenFor, numbersFit, mayCut, cutFrom, reduced, cutBack};
 ghost use Rattle.rules.specs.Calls.{suggestedCall};
-ghost use Rattle.held.specs.Counts.{Counts};
-ghost use Rattle.cutback.specs.Cuttable.{freeIn, goingBy, aboveBy, Room, Cuttable};
-use rules::Auction;
-use rules::Item;
+ghost use Rattle.rules.specs.Layout.{loaded, stored};
+ghost use Rattle.book.specs.Lent.{Long, Lent};
+ghost use Rattle.table.specs.Rows.{placesIn};
+ghost use Rattle.cutback.specs.Cuttable.{goingBy, Cuttable, Cutting};
+use rules::Lot;
+use rules::Place;
+use rules::Price;
+use rules::Quote;
 use rules::Record;
-use rules::Terms;
 use rules::Tranches;
 use rules::Volume;
+use table::WIDTH;
 
 // ---- 20: "any condition on the cutback above not met"
 
@@ -35,27 +40,29 @@ fn still_ranked(targets: [Tranches; 8], p: usize) -> bool
 }
 
 // "none larger than before and none 0, targets still ranked, caps at most targets"; past the products in use 0.
-fn numbers_fit(t: Terms, targets: [Tranches; 8], caps: [Tranches; 8], p: usize) -> bool
-    requires { ⌜ p < 8 ⌝ }
-    ensures { λ r. ⌜ r ≡ numbersFit t targets caps p ⌝ }
+fn numbers_fit(s: &[u8], targets: [Tranches; 8], caps: [Tranches; 8], p: usize) -> bool
+    requires { ⌜ Long (now s) × (p < 8) ⌝ }
+    ensures { λ r. ⌜ r ≡ numbersFit (loaded (now (s .entry)) .terms) targets caps p ⌝ }
 {
     let target = targets[p];
     let cap = caps[p];
-    if p >= t.products as usize {
+    if p >= book::products(s) {
         return (target.0 == 0) & (cap.0 == 0);
     }
-    let old = t.item[p];
-    ((target.0 <= old.target.0) & (cap.0 <= old.cap.0))
+    let had = book::target(s, p);
+    let capped = book::cap(s, p);
+    ((target.0 <= had.0) & (cap.0 <= capped.0))
         & (((1 <= target.0) & (1 <= cap.0)) & (still_ranked(targets, p) & (cap.0 <= target.0)))
 }
 
-fn all_fit(t: Terms, targets: [Tranches; 8], caps: [Tranches; 8]) -> bool
-    ensures { λ r. ⌜ r ≡ allUpTo (numbersFit t targets caps) 8 ⌝ }
+fn all_fit(s: &[u8], targets: [Tranches; 8], caps: [Tranches; 8]) -> bool
+    requires { ⌜ Long (now s) ⌝ }
+    ensures { λ r. ⌜ r ≡ allUpTo (numbersFit (loaded (now (s .entry)) .terms) targets caps) 8 ⌝ }
 {
     let mut all = true;
     let mut p: usize = 0;
     while p < 8 {
-        all = all & numbers_fit(t, targets, caps, p);
+        all = all & numbers_fit(s, targets, caps, p);
         p += 1;
     }
     all
@@ -78,72 +85,76 @@ fn volume(targets: [Tranches; 8], products: usize) -> u32
 
 // "If round 1 leaves the auction open and no round 2 card is filed, the manager may give revised targets and product caps".
 // "The statewide cap stays, so a new volume below it is refused."
-pub fn may_cut(a: Auction, targets: [Tranches; 8], caps: [Tranches; 8]) -> bool
-    requires { ⌜ Counts a ⌝ }
-    ensures { λ r. ⌜ r ≡ mayCut a targets caps ⌝ }
+pub fn may_cut(s: &[u8], targets: [Tranches; 8], caps: [Tranches; 8]) -> bool
+    requires { ⌜ Lent (now s) ⌝ }
+    ensures { λ r. ⌜ r ≡ mayCut (loaded (now (s .entry))) targets caps ⌝ }
 {
-    let t = a.terms;
-    let sum = volume(targets, t.products as usize);
-    (a.round == 2) & ((a.filed == 0) & (all_fit(t, targets, caps) & (t.statewide.0 as u32 <= sum)))
+    let sum = volume(targets, book::products(s));
+    let statewide = book::statewide(s);
+    (book::round(s) == 2)
+        & ((book::filed(s) == 0) & (all_fit(s, targets, caps) & (statewide.0 as u32 <= sum)))
 }
 
 // ---- The cutback
 
-fn items(old: [Item; 8], targets: [Tranches; 8], caps: [Tranches; 8]) -> [Item; 8]
-    ensures { λ r. ⌜ r ≡ listOf (λ p. item (givenFor targets p) (givenFor caps p) (getD old p noItem .start)) 8 ⌝ }
+// The starting prices.
+fn starts(s: &[u8]) -> [Quote; 8]
+    requires { ⌜ Long (now s) ⌝ }
+    ensures { λ r. ⌜ r ≡ listOf (λ p. quote (loaded (now (s .entry)) .terms .unit) (startOf (loaded (now (s .entry)) .terms) p)) 8 ⌝ }
 {
-    let mut all = old;
+    let none = Quote {
+        price: Price::of(0, 0),
+    };
+    let mut prices = [none; 8];
     let mut p: usize = 0;
     while p < 8 {
-        let x = all[p];
-        let target = targets[p];
-        let cap = caps[p];
-        all[p] = Item {
-            target,
-            cap,
-            start: x.start,
-        };
+        let x = book::start(s, p);
+        prices[p] = Quote { price: x };
         p += 1;
     }
-    all
+    prices
 }
 
-// Every other setting stays.
-fn revised(t: Terms, targets: [Tranches; 8], caps: [Tranches; 8]) -> Terms
-    ensures { λ r. ⌜ r ≡ revised t targets caps ⌝ }
+// A place that has a record and no bid.
+fn unbid(r: Record) -> Place
+    ensures { λ x. ⌜ x ≡ at r 0 0 0 0 0 ⌝ }
 {
-    let old = t.item;
-    let item = items(old, targets, caps);
-    let mut next = t;
-    next.item = item;
-    next
+    Place {
+        holds: r,
+        leaving: Lot {
+            count: Tranches(0),
+            exit: 0,
+        },
+        moving: Tranches(0),
+        rise: Tranches(0),
+        priority: 0,
+    }
 }
 
 // "A bidder above a reduced cap is set to the cap".
-fn set_to_caps(records: [Record; 256], caps: [Tranches; 8]) -> [Record; 256]
-    ensures { λ r. ⌜ r ≡ listOf (λ k. setTo (recordAt records k) (givenFor caps (k % 8))) 256 ⌝ }
+fn set_to_caps(s: &[u8], caps: [Tranches; 8], ps: &mut [[u32; WIDTH]; 256])
+    requires { ⌜ Long (now s) × (length (now ps) ≡ 256) ⌝ }
+    ensures { λ _. ⌜ placesIn (now (ps .exit)) ≡ listOf (λ k. at (setTo (recordAt (loaded (now (s .entry)) .records) k) (givenFor caps (k % 8))) 0 0 0 0 0) 256 ⌝ }
 {
-    let mut all = records;
     let mut k: usize = 0;
     while k < 256 {
-        let own = all[k];
+        let own = book::record(s, k);
         let cap = caps[k % 8];
-        all[k] = own.set_to(cap);
+        table::put(ps, k, unbid(own.set_to(cap)));
         k += 1;
     }
-    all
 }
 
 // The tranches of bidder b above the caps.
-fn cut_from(records: [Record; 256], caps: [Tranches; 8], products: usize, b: usize) -> u32
-    requires { ⌜ (products ≤ 8) × ((b < 32) × (goingBy records products b ≤ 65535)) ⌝ }
-    ensures { λ r. ⌜ (r ≡ aboveBy records caps products b) × (r ≤ goingBy records products b) ⌝ }
+fn cut_from(s: &[u8], caps: [Tranches; 8], b: usize) -> u32
+    requires { ⌜ Cuttable (now s) × (b < 32) ⌝ }
+    ensures { λ r. ⌜ (r ≡ cutFrom (loaded (now (s .entry))) caps b) × (r ≤ goingBy (loaded (now (s .entry))) b) ⌝ }
 {
+    let products = book::products(s);
     let mut sum: u32 = 0;
     let mut p: usize = 0;
     while p < products {
-        let k = b * 8 + p;
-        let own = records[k];
+        let own = book::record(s, b * 8 + p);
         let cap = caps[p];
         sum += own.above(cap);
         p += 1;
@@ -159,57 +170,48 @@ fn more(free: Tranches, cut: u32) -> Tranches
 }
 
 // "and the difference becomes its free eligibility": it is added to what is free.
-fn freed(
-    free: [Tranches; 32],
-    records: [Record; 256],
-    caps: [Tranches; 8],
-    products: usize,
-) -> [Tranches; 32]
-    requires { ⌜ (products ≤ 8) × Room free records products ⌝ }
-    ensures { λ r. ⌜ r ≡ listOf (λ b. tranches (freeIn free b + aboveBy records caps products b)) 32 ⌝ }
+fn freed(s: &[u8], caps: [Tranches; 8]) -> [Tranches; 32]
+    requires { ⌜ Cuttable (now s) ⌝ }
+    ensures { λ r. ⌜ r ≡ listOf (λ b. tranches (freeOf (loaded (now (s .entry))) b + cutFrom (loaded (now (s .entry))) caps b)) 32 ⌝ }
 {
-    let mut all = free;
+    let mut all = [Tranches(0); 32];
     let mut b: usize = 0;
     while b < 32 {
-        let f = all[b];
-        all[b] = more(f, cut_from(records, caps, products, b));
+        all[b] = more(book::free(s, b), cut_from(s, caps, b));
         b += 1;
     }
     all
 }
 
 // "the reduced book", at the starting prices, and as it is if it stops.
-fn reduced(a: Auction, targets: [Tranches; 8], caps: [Tranches; 8]) -> Auction
-    requires { ⌜ Cuttable a ⌝ }
-    ensures { λ r. ⌜ (r ≡ reduced a targets caps) × (Counts r × (r .terms .rows ≤ 8)) ⌝ }
+fn reduce(s: &mut [u8], targets: [Tranches; 8], caps: [Tranches; 8])
+    requires { ⌜ Cuttable (now s) ⌝ }
+    ensures { λ _. ⌜ now (s .exit) ≡ stored (reduced (loaded (now (s .entry))) targets caps) ⌝ }
 {
-    let t = a.terms;
-    let book = a.records;
-    let had = a.free;
-    let terms = revised(t, targets, caps);
-    let start = opening::starts(t);
-    let free = freed(had, book, caps, t.products as usize);
-    let records = set_to_caps(book, caps);
-    let mut z = a;
-    z.phase = 3;
-    z.terms = terms;
-    z.price = start;
-    z.before = start;
-    z.free = free;
-    z.records = records;
-    z
+    let free = freed(s, caps);
+    let start = starts(s);
+    let mut ps = [[0u32; WIDTH]; 256];
+    set_to_caps(s, caps, &mut ps);
+    let _ = storing::as_stored(s);
+    storing::phase(s, 3);
+    storing::limits(s, targets, caps);
+    storing::prices(s, start, start);
+    storing::free(s, free);
+    storing::records(s, &ps);
 }
 
 // "Step 5's stop applies again"; otherwise "Round 2 prices are worked out afresh from the starting prices and the reduced book".
-pub fn cut_back(a: Auction, targets: [Tranches; 8], caps: [Tranches; 8]) -> Auction
-    requires { ⌜ Cuttable a ⌝ }
-    ensures { λ r. ⌜ r ≡ cutBack a targets caps ⌝ }
+pub fn cut_back(s: &mut [u8], targets: [Tranches; 8], caps: [Tranches; 8])
+    requires { ⌜ Cutting (now s) targets caps ⌝ }
+    ensures { λ _. ⌜ now (s .exit) ≡ stored (cutBack (loaded (now (s .entry))) targets caps) ⌝ }
 {
-    let z = reduced(a, targets, caps);
-    if held::stops(z) {
-        return z;
+    reduce(s, targets, caps);
+    let _ = storing::as_stored(s);
+    if held::stops(s) {
+        return;
     }
-    prices::opens_at(z, z.round)
+    let round = book::round(s);
+    prices::opens_at(s, round);
 }
 
 // ---- The helper

@@ -1,10 +1,13 @@
 -- The bidder on a card. Assumes nothing.
+use mathlib.Core.Path.{_≡_, sym, _∙_, ap, subst}
 use mathlib.Core.Bool.{Bool, true, false, cond}
 use mathlib.Core.List.{List}
 use Prim.Native.Nat.{ℕ, _<_}
 use native.Mathlib.Omega.{arith}
 use lib.ListN.{length}
 use lib.Dec.{eqb}
+use Rattle.rules.specs.declared.CardRead.{CardRead}
+use Rattle.rules.specs.declared.Card.the-variants.{Bid}
 use Rattle.rules.specs.Card.{countFits, cardLength, filled, bidOf, readRefused, readCard}
 use Rattle.rules.specs.Calls.{bidderOn}
 use Rattle.bits.proofs.BitLaws.{field-small}
@@ -17,6 +20,9 @@ module _ (s : List ℕ) (n : ℕ) where
   small-by false u v = omega arith
 
   -- a card has five bits for it
-  pub bidder-small : bidderOn (readCard s n .card) < 32
+  bidder-small : bidderOn (readCard s n .card) < 32
   unfolding readCard
   bidder-small = small-by (countFits n) (eqb (length s) (cardLength n)) (filled s n)
+
+  pub bidder-of : (r : CardRead) (b t : ℕ) → r ≡ readCard s n → r .card ≡ Bid b t → b < 32
+  bidder-of r b t e h = subst (λ x. x < 32) (ap (λ r. bidderOn (r .card)) (sym e) ∙ ap bidderOn h) bidder-small

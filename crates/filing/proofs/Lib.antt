@@ -1,4 +1,3 @@
 pub mod Marking
-pub mod Slots
 pub mod Bidder
 pub mod Numbers

@@ -1,1 +1,1 @@
-pub mod Refusal
+pub mod Filing

@@ -1,2 +1,3 @@
 pub mod Signed
-pub mod Search
+pub mod Found
+pub mod Passed

@@ -1,29 +1,30 @@
 // "What is held" of document 01, and the part of "Calculating", step 5, that only reads: excess supply and the stop.
 // Every sum is of u16 fields, at most 32 or 8 of them, and is taken where it cannot wrap whatever the state holds.
 ghost use mathlib.Core.Path.{_≡_};
-ghost use Prim.Native.Nat.{_≤_, _<_};
+ghost use Prim.Native.Nat.{_-_, _≤_, _<_};
 ghost use mathlib.Core.Bool.{_&&_};
+ghost use lib.ListN.{length};
 ghost use lib.Dec.{eqb};
 ghost use Rattle.rules.specs.Count.{sumUpTo};
 ghost use Rattle.rules.specs.Settings.{targetOf};
 ghost use Rattle.rules.specs.Held.{heldIn, held, standingOf, ticked, aboveZero, freeOf, excess};
-ghost use Rattle.rules.specs.Bid.{recordOf, priceAt};
+ghost use Rattle.rules.specs.Bid.{oneIf, recordOf, priceAt};
 ghost use Rattle.rules.specs.Standing.{keptOn};
 ghost use Rattle.rules.specs.Round.{atBottom, stops};
-ghost use Rattle.held.specs.Counts.{Counts};
-use rules::Auction;
+ghost use Rattle.rules.specs.Layout.{loaded};
+ghost use Rattle.book.specs.Lent.{Long, Lent};
+ghost use Rattle.held.specs.Ticks.{Ticks};
 
 // "Held is g + d + r over all bidders."
-pub fn held(a: Auction, p: usize) -> u32
-    requires { ⌜ Counts a × (p < 8) ⌝ }
-    ensures { λ r. ⌜ (r ≡ held (a .records) (a .terms .bidders) p) × (r ≤ 6291360) ⌝ }
+pub fn held(s: &[u8], p: usize) -> u32
+    requires { ⌜ Lent (now s) × (p < 8) ⌝ }
+    ensures { λ r. ⌜ (r ≡ held (loaded (now (s .entry)) .records) (loaded (now (s .entry)) .terms .bidders) p) × (r ≤ 6291360) ⌝ }
 {
-    let n = a.terms.bidders as usize;
+    let n = book::bidders(s);
     let mut sum: u32 = 0;
     let mut b: usize = 0;
     while b < n {
-        let k = b * 8 + p;
-        let r = a.records[k];
+        let r = book::record(s, b * 8 + p);
         sum += r.held();
         b += 1;
     }
@@ -31,16 +32,15 @@ pub fn held(a: Auction, p: usize) -> u32
 }
 
 // '"Kept" means denied or retained.'
-pub fn kept_on(a: Auction, p: usize) -> u32
-    requires { ⌜ Counts a × (p < 8) ⌝ }
-    ensures { λ r. ⌜ (r ≡ keptOn a p) × (r ≤ 4194240) ⌝ }
+pub fn kept_on(s: &[u8], p: usize) -> u32
+    requires { ⌜ Lent (now s) × (p < 8) ⌝ }
+    ensures { λ r. ⌜ (r ≡ keptOn (loaded (now (s .entry))) p) × (r ≤ 4194240) ⌝ }
 {
-    let n = a.terms.bidders as usize;
+    let n = book::bidders(s);
     let mut sum: u32 = 0;
     let mut b: usize = 0;
     while b < n {
-        let k = b * 8 + p;
-        let r = a.records[k];
+        let r = book::record(s, b * 8 + p);
         sum += r.kept();
         b += 1;
     }
@@ -48,90 +48,113 @@ pub fn kept_on(a: Auction, p: usize) -> u32
 }
 
 // What one bidder holds over all products.
-pub fn row_held(a: Auction, b: usize) -> u32
-    requires { ⌜ Counts a × (b < 32) ⌝ }
-    ensures { λ r. ⌜ (r ≡ sumUpTo (λ p. heldIn (recordOf a b p)) (a .terms .products)) × (r ≤ 1572840) ⌝ }
+pub fn row_held(s: &[u8], b: usize) -> u32
+    requires { ⌜ Lent (now s) × (b < 32) ⌝ }
+    ensures { λ r. ⌜ (r ≡ sumUpTo (λ p. heldIn (recordOf (loaded (now (s .entry))) b p)) (loaded (now (s .entry)) .terms .products)) × (r ≤ 1572840) ⌝ }
 {
-    let m = a.terms.products as usize;
+    let m = book::products(s);
     let mut sum: u32 = 0;
     let mut p: usize = 0;
     while p < m {
-        let k = b * 8 + p;
-        let own = a.records[k];
+        let own = book::record(s, b * 8 + p);
         sum += own.held();
         p += 1;
     }
     sum
 }
 
-fn target(a: Auction, p: usize) -> u32
-    requires { ⌜ p < 8 ⌝ }
-    ensures { λ r. ⌜ (r ≡ targetOf (a .terms) p) × (r ≤ 65535) ⌝ }
+fn target(s: &[u8], p: usize) -> u32
+    requires { ⌜ Long (now s) × (p < 8) ⌝ }
+    ensures { λ r. ⌜ (r ≡ targetOf (loaded (now (s .entry)) .terms) p) × (r ≤ 65535) ⌝ }
 {
-    let t = a.terms;
-    let item = t.item[p];
-    item.target.0 as u32
+    let t = book::target(s, p);
+    t.0 as u32
 }
 
 // "Standing of a product: held minus target, negative while it is short."
-pub fn standing(a: Auction, p: usize) -> i32
-    requires { ⌜ Counts a × (p < 8) ⌝ }
-    ensures { λ r. ⌜ (r ≡ standingOf a p) × (aboveZero (standingOf a p) ≤ 6291360) ⌝ }
+pub fn standing(s: &[u8], p: usize) -> i32
+    requires { ⌜ Lent (now s) × (p < 8) ⌝ }
+    ensures { λ r. ⌜ (r ≡ standingOf (loaded (now (s .entry))) p) × (aboveZero (standingOf (loaded (now (s .entry))) p) ≤ 6291360) ⌝ }
 {
-    held(a, p) as i32 - target(a, p) as i32
+    held(s, p) as i32 - target(s, p) as i32
 }
 
 // "A product ticked exactly when its standing after the last calculation was above zero."
-pub fn ticked(a: Auction, p: usize) -> bool
-    requires { ⌜ Counts a × (p < 8) ⌝ }
-    ensures { λ r. ⌜ r ≡ ticked a p ⌝ }
+pub fn ticked(s: &[u8], p: usize) -> bool
+    requires { ⌜ Lent (now s) × (p < 8) ⌝ }
+    ensures { λ r. ⌜ r ≡ ticked (loaded (now (s .entry))) p ⌝ }
 {
-    standing(a, p) > 0
+    standing(s, p) > 0
+}
+
+fn one_if(t: bool) -> u8
+    ensures { λ r. ⌜ r ≡ oneIf t ⌝ }
+{
+    if t { 1 } else { 0 }
+}
+
+// 1 for each product that ticked.
+pub fn ticks(s: &[u8]) -> [u8; 8]
+    requires { ⌜ Lent (now s) ⌝ }
+    ensures { λ r. ⌜ (length r ≡ 8) × Ticks r (loaded (now (s .entry))) ⌝ }
+{
+    let mut ticks = [0u8; 8];
+    let mut p: usize = 0;
+    while p < 8 {
+        ticks[p] = one_if(ticked(s, p));
+        p += 1;
+    }
+    ticks
 }
 
 // The exact case: as much is held as the target.
-pub fn met(a: Auction, p: usize) -> bool
-    requires { ⌜ Counts a × (p < 8) ⌝ }
-    ensures { λ r. ⌜ r ≡ eqb (held (a .records) (a .terms .bidders) p) (targetOf (a .terms) p) ⌝ }
+pub fn met(s: &[u8], p: usize) -> bool
+    requires { ⌜ Lent (now s) × (p < 8) ⌝ }
+    ensures { λ r. ⌜ r ≡ eqb (held (loaded (now (s .entry)) .records) (loaded (now (s .entry)) .terms .bidders) p) (targetOf (loaded (now (s .entry)) .terms) p) ⌝ }
 {
-    standing(a, p) == 0
+    standing(s, p) == 0
 }
 
 // A standing above zero as a number, and 0 for any other.
-fn surplus(a: Auction, p: usize) -> u32
-    requires { ⌜ Counts a × (p < 8) ⌝ }
-    ensures { λ r. ⌜ (r ≡ aboveZero (standingOf a p)) × (r ≤ 6291360) ⌝ }
+pub fn above_zero(standing: i32) -> u32
+    ensures { λ r. ⌜ r ≡ aboveZero standing ⌝ }
 {
-    let z = standing(a, p);
-    if z > 0 {
-        return z as u32;
+    if standing > 0 {
+        return standing as u32;
     }
     0
 }
 
-fn surpluses(a: Auction) -> u32
-    requires { ⌜ Counts a ⌝ }
-    ensures { λ r. ⌜ (r ≡ sumUpTo (λ p. aboveZero (standingOf a p)) (a .terms .products)) × (r ≤ 50330880) ⌝ }
+fn surplus(s: &[u8], p: usize) -> u32
+    requires { ⌜ Lent (now s) × (p < 8) ⌝ }
+    ensures { λ r. ⌜ (r ≡ aboveZero (standingOf (loaded (now (s .entry))) p)) × (r ≤ 6291360) ⌝ }
 {
-    let m = a.terms.products as usize;
+    above_zero(standing(s, p))
+}
+
+fn surpluses(s: &[u8]) -> u32
+    requires { ⌜ Lent (now s) ⌝ }
+    ensures { λ r. ⌜ (r ≡ sumUpTo (λ p. aboveZero (standingOf (loaded (now (s .entry))) p)) (loaded (now (s .entry)) .terms .products)) × (r ≤ 50330880) ⌝ }
+{
+    let m = book::products(s);
     let mut sum: u32 = 0;
     let mut p: usize = 0;
     while p < m {
-        sum += surplus(a, p);
+        sum += surplus(s, p);
         p += 1;
     }
     sum
 }
 
-fn all_free(a: Auction) -> u32
-    requires { ⌜ Counts a ⌝ }
-    ensures { λ r. ⌜ (r ≡ sumUpTo (freeOf a) (a .terms .bidders)) × (r ≤ 2097120) ⌝ }
+fn all_free(s: &[u8]) -> u32
+    requires { ⌜ Lent (now s) ⌝ }
+    ensures { λ r. ⌜ (r ≡ sumUpTo (freeOf (loaded (now (s .entry)))) (loaded (now (s .entry)) .terms .bidders)) × (r ≤ 2097120) ⌝ }
 {
-    let n = a.terms.bidders as usize;
+    let n = book::bidders(s);
     let mut sum: u32 = 0;
     let mut b: usize = 0;
     while b < n {
-        let f = a.free[b];
+        let f = book::free(s, b);
         sum += f.0 as u32;
         b += 1;
     }
@@ -139,46 +162,39 @@ fn all_free(a: Auction) -> u32
 }
 
 // "Total excess supply = the standings above zero, summed, plus all f."
-pub fn excess(a: Auction) -> u32
-    requires { ⌜ Counts a ⌝ }
-    ensures { λ r. ⌜ (r ≡ excess a) × (r ≤ 52428000) ⌝ }
+pub fn excess(s: &[u8]) -> u32
+    requires { ⌜ Lent (now s) ⌝ }
+    ensures { λ r. ⌜ (r ≡ excess (loaded (now (s .entry)))) × (r ≤ 52428000) ⌝ }
 {
-    surpluses(a) + all_free(a)
+    surpluses(s) + all_free(s)
+}
+
+fn fell_to_one(s: &[u8], p: usize) -> bool
+    requires { ⌜ Lent (now s) × (p < 8) ⌝ }
+    ensures { λ r. ⌜ r ≡ ticked (loaded (now (s .entry))) p && eqb (priceAt (loaded (now (s .entry))) p) 1 ⌝ }
+{
+    ticked(s, p) & (book::price(s, p).amount() == 1)
 }
 
 // Whether a product above target is at price 1.
-fn at_bottom(a: Auction) -> bool
-    requires { ⌜ Counts a ⌝ }
-    ensures { λ r. ⌜ r ≡ atBottom a ⌝ }
+fn at_bottom(s: &[u8]) -> bool
+    requires { ⌜ Lent (now s) ⌝ }
+    ensures { λ r. ⌜ r ≡ atBottom (loaded (now (s .entry))) ⌝ }
 {
-    let m = a.terms.products as usize;
+    let m = book::products(s);
+    let mut one = false;
     let mut p: usize = 0;
     while p < m {
-        if fell_to_one(a, p) {
-            return true;
-        }
+        one = one | fell_to_one(s, p);
         p += 1;
     }
-    false
-}
-
-fn fell_to_one(a: Auction, p: usize) -> bool
-    requires { ⌜ Counts a × (p < 8) ⌝ }
-    ensures { λ r. ⌜ r ≡ ticked a p && eqb (priceAt a p) 1 ⌝ }
-{
-    if !ticked(a, p) {
-        return false;
-    }
-    a.price[p] == 1
+    one
 }
 
 // "A product above target is at price 1, or this was round 4,095."
-pub fn stops(a: Auction) -> bool
-    requires { ⌜ Counts a ⌝ }
-    ensures { λ r. ⌜ r ≡ stops a ⌝ }
+pub fn stops(s: &[u8]) -> bool
+    requires { ⌜ Lent (now s) ⌝ }
+    ensures { λ r. ⌜ r ≡ stops (loaded (now (s .entry))) ⌝ }
 {
-    if at_bottom(a) {
-        return true;
-    }
-    a.round == 4095
+    at_bottom(s) | (book::round(s) == 4095)
 }

@@ -1,172 +1,124 @@
 // Document 01, "Standing means": the clauses on prices, records and eligibility. What each says is in the crate rules,
 // specs/Standing.antt.
 ghost use mathlib.Core.Path.{_≡_};
-ghost use mathlib.Core.Bool.{true, _&&_, cond};
+ghost use mathlib.Core.Bool.{_&&_, cond};
 ghost use Prim.Native.Nat.{_<_};
-ghost use lib.Dec.{leb, ltb, eqb};
+ghost use lib.Dec.{ltb, eqb};
 ghost use Rattle.rules.specs.Count.{allUpTo};
-ghost use Rattle.rules.specs.Settings.{startOf, targetOf};
+ghost use Rattle.rules.specs.Units.{amountOf};
+ghost use Rattle.rules.specs.Settings.{targetOf};
 ghost use Rattle.rules.specs.Held.{held, ticked};
-ghost use Rattle.rules.specs.Bid.{priceAt, beforeAt};
-ghost use Rattle.rules.specs.Standing.{implies, isOpen, keptOn, productStands, recordZero, recordWithin, recordStands, bidderStands};
-ghost use Rattle.held.specs.Counts.{Counts};
-use rules::Auction;
+ghost use Rattle.rules.specs.Standing.{implies, isOpen, keptOn, productStands, recordWithin, recordStands, bidderStands};
+ghost use Rattle.rules.specs.Layout.{loaded};
+ghost use Rattle.book.specs.Lent.{Lent};
+use rules::Price;
 use rules::Record;
+use rules::Tranches;
 
-// "1 <= p <= q, q at most the starting price"
-fn prices_fit(a: Auction, p: usize) -> bool
-    requires { ⌜ p < 8 ⌝ }
-    ensures { λ r. ⌜ r ≡ (leb 1 (priceAt a p) && leb (priceAt a p) (beforeAt a p) && leb (beforeAt a p) (startOf (a .terms) p)) ⌝ }
+// One of two answers, as the test says.
+fn choose(t: bool, x: bool, y: bool) -> bool
+    ensures { λ r. ⌜ r ≡ cond t x y ⌝ }
 {
-    let t = a.terms;
-    let item = t.item[p];
-    let x = a.price[p];
-    let q = a.before[p];
-    if x < 1 {
-        return false;
-    }
-    if q < x {
-        return false;
-    }
-    q <= item.start
+    if t { x } else { y }
 }
 
-// "q > p where held exceeds target (in the open phase)"
-fn fell_where_over(a: Auction, p: usize) -> bool
-    requires { ⌜ Counts a × (p < 8) ⌝ }
-    ensures { λ r. ⌜ r ≡ implies (isOpen a && ticked a p) (ltb (priceAt a p) (beforeAt a p)) ⌝ }
+// "q > p where held exceeds target (in the open phase) or a tranche is kept"; "kept tranches only where held equals target"
+fn fell_where_due(s: &[u8], p: usize, fell: bool) -> bool
+    requires { ⌜ Lent (now s) × (p < 8) ⌝ }
+    ensures { λ r. ⌜ r ≡ implies (isOpen (loaded (now (s .entry))) && ticked (loaded (now (s .entry))) p) fell && implies (ltb 0 (keptOn (loaded (now (s .entry))) p)) (fell && eqb (held (loaded (now (s .entry)) .records) (loaded (now (s .entry)) .terms .bidders) p) (targetOf (loaded (now (s .entry)) .terms) p)) ⌝ }
 {
-    if a.phase != 1 {
-        return true;
-    }
-    if held::ticked(a, p) {
-        return a.price[p] < a.before[p];
-    }
-    true
+    let over = choose((book::phase(s) == 1) & held::ticked(s, p), fell, true);
+    let kept = choose(held::kept_on(s, p) > 0, fell & held::met(s, p), true);
+    over & kept
 }
 
-// "or a tranche is kept"; "kept tranches only where held equals target"
-fn kept_where_met(a: Auction, p: usize) -> bool
-    requires { ⌜ Counts a × (p < 8) ⌝ }
-    ensures { λ r. ⌜ r ≡ implies (ltb 0 (keptOn a p)) (ltb (priceAt a p) (beforeAt a p) && eqb (held (a .records) (a .terms .bidders) p) (targetOf (a .terms) p)) ⌝ }
+fn product_stands(s: &[u8], p: usize) -> bool
+    requires { ⌜ Lent (now s) × (p < 8) ⌝ }
+    ensures { λ r. ⌜ r ≡ productStands (loaded (now (s .entry))) p ⌝ }
 {
-    if held::kept_on(a, p) == 0 {
-        return true;
+    let x = book::price(s, p).amount();
+    let q = book::before(s, p).amount();
+    if p >= book::products(s) {
+        return (x == 0) & (q == 0);
     }
-    if a.price[p] >= a.before[p] {
-        return false;
-    }
-    held::met(a, p)
+    // "1 <= p <= q, q at most the starting price"
+    let start = book::start(s, p).amount();
+    (1 <= x) & ((x <= q) & ((q <= start) & fell_where_due(s, p, x < q)))
 }
 
-fn product_stands(a: Auction, p: usize) -> bool
-    requires { ⌜ Counts a × (p < 8) ⌝ }
-    ensures { λ r. ⌜ r ≡ productStands a p ⌝ }
+pub fn products_stand(s: &[u8]) -> bool
+    requires { ⌜ Lent (now s) ⌝ }
+    ensures { λ r. ⌜ r ≡ allUpTo (productStands (loaded (now (s .entry)))) 8 ⌝ }
 {
-    if p >= a.terms.products as usize {
-        if a.price[p] != 0 {
-            return false;
-        }
-        return a.before[p] == 0;
-    }
-    if !prices_fit(a, p) {
-        return false;
-    }
-    if !fell_where_over(a, p) {
-        return false;
-    }
-    kept_where_met(a, p)
-}
-
-pub fn products_stand(a: Auction) -> bool
-    requires { ⌜ Counts a ⌝ }
-    ensures { λ r. ⌜ r ≡ allUpTo (productStands a) 8 ⌝ }
-{
+    let mut ok = true;
     let mut p: usize = 0;
     while p < 8 {
-        if !product_stands(a, p) {
-            return false;
-        }
+        ok = ok & product_stands(s, p);
         p += 1;
     }
-    true
+    ok
 }
 
 // "retained exits above p, at most q, and 0 where r is 0"; "each bidder within product caps"
-fn record_within(price: u32, before: u32, cap: u32, r: Record) -> bool
-    ensures { λ o. ⌜ o ≡ recordWithin price before cap r ⌝ }
+fn record_within(p: Price, q: Price, cap: Tranches, r: Record) -> bool
+    ensures { λ o. ⌜ o ≡ recordWithin (amountOf p) (amountOf q) (cap .0) r ⌝ }
 {
-    if r.retained.count.0 > 0 {
-        if r.retained.exit <= price {
-            return false;
-        }
-        if r.retained.exit > before {
-            return false;
-        }
-        return r.held() <= cap;
-    }
-    if r.retained.exit != 0 {
-        return false;
-    }
-    r.held() <= cap
+    let exit = r.retained.exit;
+    let fits = choose(
+        r.retained.count.0 > 0,
+        (p.amount() < exit) & (exit <= q.amount()),
+        exit == 0,
+    );
+    fits & (r.held() <= cap.0 as u32)
 }
 
-fn record_stands(a: Auction, k: usize) -> bool
-    requires { ⌜ Counts a × (k < 256) ⌝ }
-    ensures { λ r. ⌜ r ≡ recordStands a k ⌝ }
+fn record_stands(s: &[u8], k: usize) -> bool
+    requires { ⌜ Lent (now s) × (k < 256) ⌝ }
+    ensures { λ r. ⌜ r ≡ recordStands (loaded (now (s .entry))) k ⌝ }
 {
-    let r = a.records[k];
-    let b = k / 8;
+    let r = book::record(s, k);
     let p = k % 8;
-    if b >= a.terms.bidders as usize {
-        return r.is_zero();
+    if (k / 8 < book::bidders(s)) & (p < book::products(s)) {
+        return record_within(book::price(s, p), book::before(s, p), book::cap(s, p), r);
     }
-    if p >= a.terms.products as usize {
-        return r.is_zero();
-    }
-    let t = a.terms;
-    let item = t.item[p];
-    record_within(a.price[p], a.before[p], item.cap.0 as u32, r)
+    r.is_zero()
 }
 
-pub fn records_stand(a: Auction) -> bool
-    requires { ⌜ Counts a ⌝ }
-    ensures { λ r. ⌜ r ≡ allUpTo (recordStands a) 256 ⌝ }
+pub fn records_stand(s: &[u8]) -> bool
+    requires { ⌜ Lent (now s) ⌝ }
+    ensures { λ r. ⌜ r ≡ allUpTo (recordStands (loaded (now (s .entry)))) 256 ⌝ }
 {
+    let mut ok = true;
     let mut k: usize = 0;
     while k < 256 {
-        if !record_stands(a, k) {
-            return false;
-        }
+        ok = ok & record_stands(s, k);
         k += 1;
     }
-    true
+    ok
 }
 
 // "and, with f, within initial eligibility"
-fn bidder_stands(a: Auction, b: usize) -> bool
-    requires { ⌜ Counts a × (b < 32) ⌝ }
-    ensures { λ r. ⌜ r ≡ bidderStands a b ⌝ }
+fn bidder_stands(s: &[u8], b: usize) -> bool
+    requires { ⌜ Lent (now s) × (b < 32) ⌝ }
+    ensures { λ r. ⌜ r ≡ bidderStands (loaded (now (s .entry))) b ⌝ }
 {
-    let f = a.free[b];
-    if b >= a.terms.bidders as usize {
+    let f = book::free(s, b);
+    if b >= book::bidders(s) {
         return f.0 == 0;
     }
-    let t = a.terms;
-    let most = t.eligibility[b];
-    held::row_held(a, b) + f.0 as u32 <= most.0 as u32
+    let most = book::initial(s, b);
+    held::row_held(s, b) + f.0 as u32 <= most.0 as u32
 }
 
-pub fn bidders_stand(a: Auction) -> bool
-    requires { ⌜ Counts a ⌝ }
-    ensures { λ r. ⌜ r ≡ allUpTo (bidderStands a) 32 ⌝ }
+pub fn bidders_stand(s: &[u8]) -> bool
+    requires { ⌜ Lent (now s) ⌝ }
+    ensures { λ r. ⌜ r ≡ allUpTo (bidderStands (loaded (now (s .entry)))) 32 ⌝ }
 {
+    let mut ok = true;
     let mut b: usize = 0;
     while b < 32 {
-        if !bidder_stands(a, b) {
-            return false;
-        }
+        ok = ok & bidder_stands(s, b);
         b += 1;
     }
-    true
+    ok
 }

@@ -4,36 +4,22 @@ use mathlib.Core.Bool.{Bool, true, false, _&&_, cond}
 use mathlib.Core.List.{List}
 use Prim.Native.Nat.{ℕ, zero, suc, _+_, _≤_, _<_}
 use native.Mathlib.Omega.{arith}
-use lib.ListN.{getD}
 use Rattle.rules.specs.declared.Kept.{Kept}
 use Rattle.rules.specs.declared.Pick.{Pick}
 use Rattle.rules.specs.declared.Pick.the-variants.{At, Nobody}
 use Rattle.rules.specs.declared.Place.{Place}
-use Rattle.rules.specs.declared.Terms.{Terms}
-use Rattle.rules.specs.Count.{pickIf, better, firstUpTo, never}
-use Rattle.rules.specs.Settings.{targetOf}
+use Rattle.rules.specs.Count.{firstUpTo, never}
 use Rattle.rules.specs.Held.{standing, below}
 use Rattle.rules.specs.Accept.{column, every, heldOf, leftOf}
 use Rattle.rules.specs.Keep.{short, keepStep, canKeep, kept, whileShort, keepLoop, keptAll}
 use Rattle.rules.specs.Round.{drawn}
 use Rattle.rules.proofs.Sums.{best-found}
 use Rattle.search.specs.declared.Next.{Next}
-use Rattle.search.specs.Room.{Drawn, isOne}
+use Rattle.search.specs.Room.{Drawn, isOne, targetOn}
 use Rattle.search.specs.Search.{nextUpTo}
-use Rattle.search.specs.Step.{Booked, Targets, shortBy, Numbered}
+use Rattle.search.specs.Step.{Booked, shortBy, Numbered}
+use Rattle.search.proofs.Laws.{first-ext}
 use Rattle.search.proofs.Searches.{next-nothing}
-
--- ---- the same test, number by number, finds the same
-
-first-by : (f g : ℕ → Bool) (n : ℕ) (q : Pick) → f n ≡ g n → better f never q n ≡ better g never q n
-first-by f g n Nobody e = ap (λ t. pickIf t n Nobody) e
-first-by f g n (At j) e = ap (λ t. pickIf (t && never n j) n (At j)) e
-
-pub first-ext : (f g : ℕ → Bool) (n : ℕ) → ((i : ℕ) → i < n → f i ≡ g i) → firstUpTo f n ≡ firstUpTo g n
-first-ext f g zero h = refl
-first-ext f g (suc n) h =
-    ap (λ q. better f never q n) (first-ext f g n (λ i l. h i (omega arith)))
-    ∙ first-by f g n (firstUpTo g n) (h n (omega arith))
 
 -- ---- one turn of the definition
 
@@ -80,11 +66,8 @@ module _ (m n : ℕ) (f g : ℕ → ℕ) (tick : ℕ → Bool) (draw : ℕ → �
 -- ---- one turn of the code
 
 module _ (m n : ℕ) (targets ticks order : List ℕ) (ps₀ : List Place) (fuel₀ : ℕ) where
-  abbrev pub target : ℕ → ℕ
-  target p = getD targets p 0
-
   abbrev pub rest : ℕ → List Place → ℕ → Kept
-  rest fuel ps count = keepLoop m n target (isOne ticks) (drawn order) fuel ps count
+  rest fuel ps count = keepLoop m n (targetOn targets) (isOne ticks) (drawn order) fuel ps count
 
   pub record Turn (ps : List Place) (held turns ranks : List ℕ) (count fuel : ℕ) : Type 0 where
     pub same : rest fuel ps count ≡ rest fuel₀ ps₀ 0
@@ -121,18 +104,14 @@ module _ (w : Loop) where
   whole = rest (w .m) (w .n) (w .targets) (w .ticks) (w .order) (w .ps₀) (w .fuel₀) (w .fuel₀) (w .ps₀) 0
 
   abbrev pub aim : ℕ → ℕ
-  aim p = getD (w .targets) p 0
+  aim = targetOn (w .targets)
 
   abbrev pub firstShort : Pick
   firstShort = firstUpTo (short (w .n) aim (isOne (w .ticks)) (w .ps)) (w .m)
 
-  -- by the targets of the settings
-  pub turn-all : (t : Terms) → Targets (w .targets) t → w .fuel₀ ≡ every leftOf (w .ps₀) (w .n)
-      → whole ≡ keptAll (w .m) (w .n) (targetOf t) (isOne (w .ticks)) (drawn (w .order)) (w .ps₀)
-  turn-all t g e =
-      ap (λ f. keepLoop (w .m) (w .n) aim (isOne (w .ticks)) (drawn (w .order)) f (w .ps₀) 0) e
-      ∙ loop-ext (w .m) (w .n) aim (targetOf t) (isOne (w .ticks)) (drawn (w .order)) (λ p l. g p (omega (arith, w .few)))
-      (every leftOf (w .ps₀) (w .n)) (w .ps₀) 0
+  pub turn-all : w .fuel₀ ≡ every leftOf (w .ps₀) (w .n)
+      → whole ≡ keptAll (w .m) (w .n) aim (isOne (w .ticks)) (drawn (w .order)) (w .ps₀)
+  turn-all e = ap (λ f. keepLoop (w .m) (w .n) aim (isOne (w .ticks)) (drawn (w .order)) f (w .ps₀) 0) e
 
   -- the code looks at what it has counted, the definition counts anew
   pub first-same : (q : Pick) → q ≡ firstUpTo (shortBy (w .held) (w .targets) (w .ticks)) (w .m) → firstShort ≡ q

@@ -1,7 +1,11 @@
-// The largest rounds, for counting what a calculation costs. Each argument names one: `w` keeps 1,600 withdrawals of bidders who
-// did not file, `s` denies 1,400 switches, and `c` only counts the cards, which loads and judges the state as the others do.
+// The largest rounds, for counting what a calculation costs (bench/count). Each argument is a letter. A state is chosen by `w`, whose
+// calculation keeps 1,600 withdrawals of bidders who did not file, `s`, which denies 1,400 switches, `o`, which outbids 1,400
+// withdrawals kept the round before, or `r`, which reads the state from standard input. Then `k` calculates it, `c` only counts its
+// cards, which judges the state as every call does, `b` writes its bytes, and `a` those after the calculation.
 ghost use mathlib.Core.Path.{_≡_};
 ghost use lib.ListN.{length};
+use layout::STATE;
+use libc::STDIN_FILENO;
 use libc::STDOUT_FILENO;
 use rules::BasisPoints;
 use rules::Calculation;
@@ -16,8 +20,8 @@ use rules::Settings;
 use rules::Tranches;
 use rules::Unit;
 
-// 8 products of 200 tranches, 32 bidders.
-fn settings() -> Settings {
+// 8 products of 200 tranches, 32 bidders who may bid `each` tranches.
+fn settings(each: u16) -> Settings {
     let product = Product {
         target: Tranches(200),
         cap: Tranches(200),
@@ -39,7 +43,7 @@ fn settings() -> Settings {
         rows: 1,
         statewide: Tranches(1600),
         product: [product; 8],
-        eligibility: [Tranches(56); 32],
+        eligibility: [Tranches(each); 32],
         row,
     }
 }
@@ -52,6 +56,17 @@ fn line(tranches: u16, priority: u8) -> Line {
             exit: 0,
         },
         priority,
+    }
+}
+
+fn withdrawn(count: u16, exit: u32) -> Line {
+    Line {
+        tranches: Tranches(0),
+        withdrawn: Lot {
+            count: Tranches(count),
+            exit,
+        },
+        priority: 0,
     }
 }
 
@@ -78,27 +93,63 @@ fn draw() -> [u8; 32]
     order
 }
 
+// The state is returned, and an auction opened whose bidders may bid `each` tranches.
+fn opened(state: &mut [u8], each: u16) {
+    console::return_box(state);
+    console::open(state, settings(each));
+}
+
+// A round in which every bidder files the same lines.
+fn played(state: &mut [u8], round: u16, lines: [Line; 8]) {
+    file_all(state, round, lines);
+    console::calculate(state, &draw());
+}
+
 // Round 2 with 224 tranches bid on every product, and nobody has filed.
-fn all_withdraw() -> [u8; 3333] {
-    let mut state = [0u8; 3333];
-    console::open(&mut state, settings());
-    file_all(&mut state, 1, [line(7, 0); 8]);
-    console::calculate(&mut state, &draw());
-    state
+fn all_withdraw(state: &mut [u8]) {
+    opened(state, 56);
+    played(state, 1, [line(7, 0); 8]);
 }
 
 // Round 2 with 224 tranches bid on seven products, and all of them moved to the eighth.
-fn all_switch() -> [u8; 3333] {
-    let mut state = [0u8; 3333];
-    console::open(&mut state, settings());
+fn all_switch(state: &mut [u8]) {
+    opened(state, 56);
     let mut lines = [line(7, 0); 8];
     lines[7] = line(0, 0);
-    file_all(&mut state, 1, lines);
-    console::calculate(&mut state, &draw());
+    played(state, 1, lines);
     let mut moved = [line(0, 0); 8];
     moved[7] = line(49, 1);
-    file_all(&mut state, 2, moved);
-    state
+    file_all(state, 2, moved);
+}
+
+// Round 3 with 200 withdrawals kept on seven products, and 3,200 tranches bid on the eighth.
+fn all_kept(state: &mut [u8]) {
+    opened(state, 149);
+    let mut lines = [line(7, 0); 8];
+    lines[7] = line(100, 0);
+    played(state, 1, lines);
+    let mut left = [withdrawn(7, 9950); 8];
+    left[7] = line(100, 0);
+    played(state, 2, left);
+}
+
+fn moved_back() -> [Line; 8] {
+    [
+        line(7, 1),
+        line(7, 2),
+        line(7, 3),
+        line(7, 4),
+        line(7, 5),
+        line(7, 6),
+        line(7, 7),
+        line(51, 0),
+    ]
+}
+
+// The same, and 224 tranches are moved from the eighth product to each of the others.
+fn all_outbid(state: &mut [u8]) {
+    all_kept(state);
+    file_all(state, 3, moved_back());
 }
 
 fn say(words: &[u8], n: u32) {
@@ -106,7 +157,7 @@ fn say(words: &[u8], n: u32) {
     io::print_decimal(STDOUT_FILENO, n as u64);
 }
 
-fn calculated(start: [u8; 3333]) {
+fn calculated(start: [u8; STATE]) {
     let mut state = start;
     let answer = console::calculate(&mut state, &draw());
     match answer {
@@ -119,8 +170,8 @@ fn calculated(start: [u8; 3333]) {
     io::write_all(STDOUT_FILENO, b"\n");
 }
 
-fn counted(start: [u8; 3333]) {
-    let answer = console::count(&start);
+fn counted(state: [u8; STATE]) {
+    let answer = console::count(&state);
     match answer {
         Count::ToFile(n) => say(b"still to file ", n),
         Count::Refused(n) => say(b"refused ", n as u32),
@@ -128,23 +179,47 @@ fn counted(start: [u8; 3333]) {
     io::write_all(STDOUT_FILENO, b"\n");
 }
 
+fn written(state: [u8; STATE]) {
+    io::write_all(STDOUT_FILENO, &state);
+}
+
+fn written_after(start: [u8; STATE]) {
+    let mut state = start;
+    console::calculate(&mut state, &draw());
+    io::write_all(STDOUT_FILENO, &state);
+}
+
+fn choose(state: &mut [u8], letter: u8) {
+    match letter {
+        b'w' => all_withdraw(state),
+        b's' => all_switch(state),
+        b'o' => all_outbid(state),
+        b'r' => {
+            io::read_full(STDIN_FILENO, state);
+        }
+        _ => {}
+    }
+}
+
+fn act(state: [u8; STATE], letter: u8) {
+    match letter {
+        b'k' => calculated(state),
+        b'c' => counted(state),
+        b'b' => written(state),
+        b'a' => written_after(state),
+        _ => {}
+    }
+}
+
 fn main() {
-    let withdrawals = all_withdraw();
-    let switches = all_switch();
+    let mut state = [0u8; STATE];
     let n = os::arg_count();
     let mut i: usize = 1;
     while i < n {
         let mut word = [0u8; 8];
         os::arg(i, &mut word);
-        if word[0] == b'w' {
-            calculated(withdrawals);
-        }
-        if word[0] == b's' {
-            calculated(switches);
-        }
-        if word[0] == b'c' {
-            counted(withdrawals);
-        }
+        choose(&mut state, word[0]);
+        act(state, word[0]);
         i += 1;
     }
 }

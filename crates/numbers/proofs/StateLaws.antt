@@ -13,18 +13,20 @@ use Rattle.rules.specs.Standing.{stands}
 use Rattle.rules.specs.Calls.{ofState}
 use Rattle.rules.specs.Stands.{Stands}
 use Rattle.rules.proofs.Standing.{stands-take}
-use Rattle.held.specs.Counts.{Counts}
+use Rattle.book.specs.Lent.{Lent}
 use Rattle.numbers.specs.State.{stateNumber}
 
 -- bytes that hold a standing auction
 pub record Stood (s : List ℕ) : Type 0 where
-  pub long : length s ≡ 3333
+  pub long : length s ≡ stateLength
   pub stood : Stands (loaded s)
   pub says : (w : ℕ) (f : Auction → ℕ) → ofState s w f ≡ f (loaded s)
 
--- the counts of a standing auction are within their limits
-pub counts : (s : List ℕ) → Stood s → Counts (loaded s)
-counts s S = record { products = S .stood .limits .products; bidders = S .stood .limits .bidders }
+-- its counts are within their limits
+pub lent : (s : List ℕ) → Stood s → Lent s
+lent s S =
+    let L = S .stood .limits in
+    record { long = S .long; counts = record { products = L .products; bidders = L .bidders; rows = L .rows } }
 
 -- the number by the state's three tests: its length, all zero, standing
 abbrev number : Bool → Bool → Bool → ℕ → ℕ → ℕ
@@ -41,7 +43,7 @@ pub stood-by : (s : List ℕ) (w : ℕ) (f : Auction → ℕ) → 0 < w → (n :
 stood-by s w f h n e z =
     let p = passed (eqb (length s) stateLength) (allZero s) (stands (loaded s)) w (f (loaded s)) h (sym e ∙ z) in (
       record {
-        long = eqb-true (length s) 3333 (p .0);
+        long = eqb-true (length s) stateLength (p .0);
         stood = stands-take (loaded s) (p .1 .1 .0);
         says = λ w f. rw (p .0, p .1 .0, p .1 .1 .0);
       },
@@ -73,22 +75,22 @@ issued-by false u v w x e = absurd (let z : ⊥ = omega arith in z)
 pub issued : (s : List ℕ) (n w : ℕ) (f : Auction → ℕ) → n ≡ stateNumber s → n ≡ 3 → w ≡ ofState s w f
 issued s n w f e z = issued-by (eqb (length s) stateLength) (allZero s) (stands (loaded s)) w (f (loaded s)) (sym e ∙ z)
 
--- what is said of the auction that was loaded is the call's number
-pub said : (s : List ℕ) → Stood s → (a : Auction) → a ≡ loaded s → (w : ℕ) (f : Auction → ℕ) (n : ℕ) → n ≡ f a → n ≡ ofState s w f
-said s S a e w f n h = h ∙ ap f e ∙ sym (S .says w f)
+-- what is said of the auction is the call's number
+pub said : (s : List ℕ) → Stood s → (w : ℕ) (f : Auction → ℕ) (n : ℕ) → n ≡ f (loaded s) → n ≡ ofState s w f
+said s S w f n h = h ∙ sym (S .says w f)
 
 -- ---- the tests one by one
 
 module _ (s : List ℕ) where
-  pub state-1 : (length s ≡ 3333 → ⊥) → 1 ≡ stateNumber s
-  state-1 l = rw (ne-eqb (length s) 3333 l)
+  pub state-1 : (length s ≡ stateLength → ⊥) → 1 ≡ stateNumber s
+  state-1 l = rw (ne-eqb (length s) stateLength l)
 
-  module _ (l : length s ≡ 3333) where
+  module _ (l : length s ≡ stateLength) where
     pub state-3 : allZero s ≡ true → 3 ≡ stateNumber s
-    state-3 z = rw (eq-eqb (length s) 3333 l, z)
+    state-3 z = rw (eq-eqb (length s) stateLength l, z)
 
     pub state-0 : allZero s ≡ false → stands (loaded s) ≡ true → 0 ≡ stateNumber s
-    state-0 z v = rw (eq-eqb (length s) 3333 l, z, v)
+    state-0 z v = rw (eq-eqb (length s) stateLength l, z, v)
 
     pub state-2 : allZero s ≡ false → stands (loaded s) ≡ false → 2 ≡ stateNumber s
-    state-2 z v = rw (eq-eqb (length s) 3333 l, z, v)
+    state-2 z v = rw (eq-eqb (length s) stateLength l, z, v)

@@ -1,35 +1,25 @@
 // "Numbers answered": the first number that applies, for each call that is lent a state and needs one that stands. 0 stands for
 // none: the call does its work.
 ghost use mathlib.Core.Path.{_≡_};
-ghost use Rattle.rules.specs.Calls.{fileNumber, countNumber, calculateNumber, cutbackNumber, reportNumber, resultNumber};
+ghost use Rattle.rules.specs.Calls.{countNumber, calculateNumber, cutbackNumber, reportNumber, resultNumber};
 ghost use Rattle.numbers.specs.State.{stateNumber};
+use layout::STATE;
 use rules::Tranches;
 
 // 1, 2, and 3 for an issued state, which has no auction; 0 where the state stands.
 pub fn state_number(s: &[u8]) -> u8
     ensures { λ r. ⌜ r ≡ stateNumber (now (s .entry)) ⌝ }
 {
-    if s.len() != 3333 {
+    if s.len() != STATE {
         return 1;
     }
     if state::is_zero(s) {
         return 3;
     }
-    if standing::stands(state::load(s)) {
+    if standing::stands(s) {
         return 0;
     }
     2
-}
-
-// File: 1, 2, 3, 4, 5, 6 to 13.
-pub fn file_number(s: &[u8], card: &[u8]) -> u8
-    ensures { λ r. ⌜ r ≡ fileNumber (now (s .entry)) (now (card .entry)) ⌝ }
-{
-    let n = state_number(s);
-    if n != 0 {
-        return n;
-    }
-    filing::card_number(state::load(s), card)
 }
 
 // Count: 1, 2, 3.
@@ -40,8 +30,7 @@ pub fn count_number(s: &[u8]) -> u8
     if n != 0 {
         return n;
     }
-    let a = state::load(s);
-    if a.phase == 1 {
+    if book::phase(s) == 1 {
         return 0;
     }
     3
@@ -55,11 +44,10 @@ pub fn calculate_number(s: &[u8], draw: &[u8]) -> u8
     if n != 0 {
         return n;
     }
-    let a = state::load(s);
-    if a.phase != 1 {
+    if book::phase(s) != 1 {
         return 3;
     }
-    if draw::draw_fits(draw, a.terms.bidders as usize) {
+    if draw::draw_fits(draw, book::bidders(s)) {
         return 0;
     }
     14
@@ -73,11 +61,10 @@ pub fn cutback_number(s: &[u8], targets: [Tranches; 8], caps: [Tranches; 8]) -> 
     if n != 0 {
         return n;
     }
-    let a = state::load(s);
-    if a.phase != 1 {
+    if book::phase(s) != 1 {
         return 3;
     }
-    if cutback::may_cut(a, targets, caps) {
+    if cutback::may_cut(s, targets, caps) {
         return 0;
     }
     20
@@ -91,14 +78,13 @@ pub fn report_number(s: &[u8], bidder: u8) -> u8
     if n != 0 {
         return n;
     }
-    let a = state::load(s);
-    if bidder >= a.terms.bidders {
+    if bidder as usize >= book::bidders(s) {
         return 6;
     }
-    if a.phase != 1 {
+    if book::phase(s) != 1 {
         return 0;
     }
-    if a.round == 1 {
+    if book::round(s) == 1 {
         return 18;
     }
     0
@@ -115,8 +101,7 @@ pub fn result_number(s: &[u8]) -> u8
     if n != 0 {
         return n;
     }
-    let a = state::load(s);
-    if a.phase == 2 {
+    if book::phase(s) == 2 {
         return 0;
     }
     16

@@ -1,20 +1,16 @@
-// The settings that a manager gives: whether they are within their limits, in one unit; and the auction as they open it.
-use rules::Auction;
+// The settings that a manager gives: whether they are within their limits, in one unit, and as they stand in the state.
 use rules::Item;
-use rules::Line;
 use rules::Product;
-use rules::Record;
 use rules::Settings;
 use rules::Terms;
 use rules::Tranches;
 ghost use mathlib.Core.Path.{_≡_};
 ghost use mathlib.Core.Bool.{true, cond};
-ghost use Prim.Native.Nat.{_≤_, _<_};
+ghost use Prim.Native.Nat.{_<_};
 ghost use lib.Dec.{ltb, eqb};
 ghost use Rattle.rules.specs.Count.{allUpTo, listOf};
-ghost use Rattle.rules.specs.Settings.{startOf, itemOf, termsOf, productAt, oneUnit, settingsFit};
+ghost use Rattle.rules.specs.Settings.{itemOf, termsOf, productAt, oneUnit, settingsFit};
 ghost use Rattle.rules.specs.Units.{unitNumber, unitOf};
-ghost use Rattle.rules.specs.Calls.{opened};
 
 fn item_of(p: Product) -> Item
     ensures { λ r. ⌜ r ≡ itemOf p ⌝ }
@@ -102,43 +98,4 @@ pub fn settings_fit(s: Settings) -> bool
         return false;
     }
     settings::within_limits(terms_of(s))
-}
-
-// ---- The auction as it opens
-
-// The starting prices.
-pub fn starts(t: Terms) -> [u32; 8]
-    ensures { λ r. ⌜ r ≡ listOf (startOf t) 8 ⌝ }
-{
-    let mut prices = [0u32; 8];
-    let mut p = 0;
-    while p < 8 {
-        let x = t.item[p];
-        prices[p] = x.start;
-        p += 1;
-    }
-    prices
-}
-
-// "Before round 1, g = d = r = 0 and f is the initial eligibility"; bids are open, no card is filed.
-pub fn opened(t: Terms) -> Auction
-    ensures { λ r. ⌜ r ≡ opened t ⌝ }
-{
-    let price = starts(t);
-    let free = t.eligibility;
-    let nothing = Record::none();
-    let line = Line::none();
-    let records = [nothing; 256];
-    let bids = [line; 256];
-    Auction {
-        phase: 1,
-        round: 1,
-        filed: 0,
-        terms: t,
-        price,
-        before: price,
-        free,
-        records,
-        bids,
-    }
 }

@@ -1,5 +1,5 @@
 -- The ways through steps 3 and 4, against the definition. Assumes nothing.
-use borrow.Author.Tests.{eqb-true, eqb-false, ltb-true}
+use borrow.Author.Tests.{eqb-true, eqb-false, ltb-true, lt-ltb, le-ltb}
 use mathlib.Core.Path.{_≡_, refl, sym, _∙_, ap, ap₂, subst}
 use mathlib.Core.Bool.{Bool, true, false, _&&_, not, cond}
 use mathlib.Core.List.{List}
@@ -14,9 +14,10 @@ use Rattle.rules.specs.declared.Pick.the-variants.{At, Nobody}
 use Rattle.rules.specs.declared.Place.{Place}
 use Rattle.rules.specs.Units.{tranches}
 use Rattle.rules.specs.Held.{deniedIn, retainedIn, exitIn}
-use Rattle.rules.specs.Accept.{nowhere, placeAt, changed, rowOf, riseOf, deem, outbidSwitch, outbidWithdrawal}
+use Rattle.rules.specs.Accept.{nowhere, placeAt, changed, column, rowOf, heldOf, keptOf, riseOf, deem, outbidSwitch, outbidWithdrawal}
 use Rattle.rules.specs.Outbid.{deemIf, deemedUpTo, outbid, freed, deniedOne, retainedOne, outbidRetained, outbidBy}
 use Rattle.rules.proofs.Sums.{sum-ext, sum-one, best-found, first-stays, first-here, first-not}
+use Rattle.rules.proofs.Places.{column-at, column-beside}
 use Rattle.search.specs.declared.Best.{Best}
 use Rattle.search.specs.Search.{noted, higherOf}
 use Rattle.search.specs.Room.{Fits, Room}
@@ -32,11 +33,10 @@ fits-if false l f = f
 pub fits-deem : (tick : Bool) (l : Place) → Fits l → Fits (deemIf tick l)
 fits-deem tick l f = fits-if (not tick && ltb 0 (riseOf l)) l f
 
-pub deemed-next : (tick : ℕ → Bool) (ps work : List Place) (k : ℕ) (x : Place) → work ≡ deemedUpTo tick ps k
-    → x ≡ deemIf (tick (k % 8)) (placeAt work k) → set work k x ≡ deemedUpTo tick ps (suc k)
+pub deemed-next : (tick : ℕ → Bool) (ps work : List Place) (k : ℕ) → work ≡ deemedUpTo tick ps k
+    → changed (deemIf (tick (k % 8))) work k ≡ deemedUpTo tick ps (suc k)
 unfolding deemedUpTo
-deemed-next tick ps work k x e f =
-    ap (set work k) f ∙ ap (λ w. changed (deemIf (tick (k % 8))) w k) e
+deemed-next tick ps work k e = ap (λ w. changed (deemIf (tick (k % 8))) w k) e
 
 -- ---- searches
 
@@ -47,11 +47,12 @@ module _ (ps : List Place) (draw : ℕ → ℕ) (p : ℕ) where
   abbrev pub exits : ℕ → ℕ
   exits i = exitIn (placeAt ps (draw i * 8 + p) .holds)
 
-  pub retained-next : (i b : ℕ) (best next : Best) → b ≡ draw i → best ≡ noted exits (retainedOne i draw ps p)
-      → next ≡ higherOf best i (ltb 0 (retainedIn (placeAt ps (b * 8 + p) .holds))) (exitIn (placeAt ps (b * 8 + p) .holds))
-      → next ≡ noted exits (retainedOne (suc i) draw ps p)
-  retained-next i b best next d e f =
-      f ∙ ap (λ b. higherOf best i (ltb 0 (retainedIn (placeAt ps (b * 8 + p) .holds))) (exitIn (placeAt ps (b * 8 + p) .holds))) d
+  pub retained-next : (i b r x : ℕ) (best next : Best) → b ≡ draw i → r ≡ retainedIn (placeAt ps (b * 8 + p) .holds)
+      → x ≡ exitIn (placeAt ps (b * 8 + p) .holds) → best ≡ noted exits (retainedOne i draw ps p)
+      → next ≡ higherOf best i (ltb 0 r) x → next ≡ noted exits (retainedOne (suc i) draw ps p)
+  retained-next i b r x best next d er ex e f =
+      f ∙ ap₂ (λ r x. higherOf best i (ltb 0 r) x) (er ∙ ap (λ b. retainedIn (placeAt ps (b * 8 + p) .holds)) d)
+      (ex ∙ ap (λ b. exitIn (placeAt ps (b * 8 + p) .holds)) d)
       ∙ ap (λ q. higherOf q i (retains i) (exits i)) e ∙ sym (higher-next retains exits (retainedOne i draw ps p) i)
 
   pub retained-who : (n : ℕ) (best : Best) → best ≡ noted exits (retainedOne n draw ps p) → best .who ≡ retainedOne n draw ps p
@@ -63,11 +64,18 @@ module _ (ps : List Place) (draw : ℕ → ℕ) (p : ℕ) where
   abbrev denies : ℕ → Bool
   denies i = ltb 0 (deniedIn (placeAt ps (draw i * 8 + p) .holds))
 
-  pub denied-here : (n i : ℕ) → i < n → deniedOne i draw ps p ≡ Nobody → denies i ≡ true → deniedOne n draw ps p ≡ At i
-  denied-here n i l e h = first-stays denies (suc i) i n (first-here denies i e h) (omega arith)
+  denies-by : (i b d : ℕ) → b ≡ draw i → d ≡ deniedIn (placeAt ps (b * 8 + p) .holds) → denies i ≡ ltb 0 d
+  denies-by i b d eb ed = ap (ltb 0) (sym (ed ∙ ap (λ b. deniedIn (placeAt ps (b * 8 + p) .holds)) eb))
 
-  pub denied-not : (i : ℕ) → deniedOne i draw ps p ≡ Nobody → denies i ≡ false → deniedOne (suc i) draw ps p ≡ Nobody
-  denied-not i e h = first-not denies i e h
+  -- bidder b, the i-th in the draw, has d denied switches: some, or none
+  module _ (i b d : ℕ) (e : deniedOne i draw ps p ≡ Nobody) (eb : b ≡ draw i)
+      (ed : d ≡ deniedIn (placeAt ps (b * 8 + p) .holds)) where
+    pub denied-here : (n : ℕ) → i < n → 0 < d → deniedOne n draw ps p ≡ At i
+    denied-here n l h =
+        first-stays denies (suc i) i n (first-here denies i e (denies-by i b d eb ed ∙ lt-ltb 0 d h)) (omega arith)
+
+    pub denied-not : d ≤ 0 → deniedOne (suc i) draw ps p ≡ Nobody
+    denied-not h = first-not denies i e (denies-by i b d eb ed ∙ le-ltb 0 d h)
 
 -- ---- what a bidder has denied, with the place of bidder b on product p stored anew
 
@@ -112,10 +120,12 @@ unpaid fs b = ap (λ x. set fs b (tranches x)) (add-zero (freeAt fs b)) ∙ set-
 -- ---- one tranche outbid
 
 module _ (n : ℕ) (draw : ℕ → ℕ) (ps : List Place) (R : Room ps) (p : ℕ) where
-  pub lost-none : deniedOne n draw ps p ≡ Nobody → retainedOne n draw ps p ≡ Nobody
-      → Lost n draw ps p (record { at = 0; place = placeAt ps 0; owner = 0; freed = 0; more = 0 })
-  lost-none e f =
-      let same = set-getD ps 0 nowhere in
+  pub lost-none : (l : Place) → l ≡ placeAt ps 0 → deniedOne n draw ps p ≡ Nobody → retainedOne n draw ps p ≡ Nobody
+      → Lost n draw ps p (record { at = 0; place = l; owner = 0; freed = 0; more = 0 })
+  lost-none l g e f =
+      let same = ap (set ps 0) g ∙ set-getD ps 0 nowhere in
+      let h = ap (λ qs. column heldOf qs p n) same in
+      let k = ap (λ qs. column keptOf qs p n) same in
       record {
         at = omega arith;
         owner = omega arith;
@@ -126,43 +136,71 @@ module _ (n : ℕ) (draw : ℕ → ℕ) (ps : List Place) (R : Room ps) (p : ℕ
             ∙ sym (ap (λ q. outbidBy n draw q (outbid ps fs c) p) e ∙ ap (λ q. outbidRetained draw q (outbid ps fs c) p) f);
         room = subst Room (sym same) R;
         free = λ fs l F. subst (λ ps. Free (set fs 0 (tranches (freeAt fs 0 + 0))) ps) (sym same) (subst (λ fs. Free fs ps) (sym (unpaid fs 0)) F);
+        held = omega arith;
+        kept = omega arith;
+        beside = λ f q _ _. ap (λ qs. column f qs q n) same;
       }
 
-  module _ (j b : ℕ) (x : Place) (d : b ≡ draw j) (lb : b < 32) (lp : p < 8) where
-    pub lost-retained : deniedOne n draw ps p ≡ Nobody → retainedOne n draw ps p ≡ At j → x ≡ outbidWithdrawal (placeAt ps (b * 8 + p))
-        → Lost n draw ps p (record { at = b * 8 + p; place = x; owner = b; freed = 0; more = 1 })
-    lost-retained e f g =
-        let F = R .each (b * 8 + p) in
-        let gone : Fits (outbidWithdrawal (placeAt ps (b * 8 + p))) =
+  module _ (j b : ℕ) (x : Place) (d : b ≡ draw j) (ln : n ≤ 32) (lb : b < n) (lp : p < 8) where
+    abbrev k : ℕ
+    k = b * 8 + p
+
+    in-place : k < length ps
+    in-place = omega (arith, R .long)
+
+    -- one less is held and kept at the place, and so of its product
+    module _ (f : Place → ℕ) (e : f x + 1 ≡ f (placeAt ps k)) where
+      column-less : column f (set ps k x) p n + 1 ≡ column f ps p n
+      column-less = let c = column-at (λ _. x) ps b p in-place f n lb in omega arith
+
+    column-same : (f : Place → ℕ) (q : ℕ) → q < 8 → (q ≡ p → ⊥) → column f (set ps k x) q n ≡ column f ps q n
+    column-same f q lq u = column-beside (λ _. x) ps b p in-place f q n lp lq u
+
+    pub lost-retained : deniedOne n draw ps p ≡ Nobody → retainedOne n draw ps p ≡ At j → 0 < retainedIn (placeAt ps k .holds)
+        → x ≡ outbidWithdrawal (placeAt ps k)
+        → Lost n draw ps p (record { at = k; place = x; owner = b; freed = 0; more = 1 })
+    lost-retained e f some g =
+        let F = R .each k in
+        let gone : Fits (outbidWithdrawal (placeAt ps k)) =
         record { outs = omega (arith, F .outs); switches = F .switches; rises = F .rises } in
         let same = ap deniedOf g in
+        let h = ap heldOf g in
+        let i = ap keptOf g in
         record {
           at = omega arith;
-          owner = lb;
+          owner = omega arith;
           freed = omega arith;
           more = omega arith;
           makes = λ fs c.
-              ap₂ (λ ps fs. outbid ps fs (c + 1)) (ap (set ps (b * 8 + p)) g ∙ ap (λ b. changed outbidWithdrawal ps (b * 8 + p)) d) (unpaid fs b)
+              ap₂ (λ ps fs. outbid ps fs (c + 1)) (ap (set ps k) g ∙ ap (λ b. changed outbidWithdrawal ps (b * 8 + p)) d) (unpaid fs b)
               ∙ sym (ap (λ q. outbidBy n draw q (outbid ps fs c) p) e ∙ ap (λ q. outbidRetained draw q (outbid ps fs c) p) f);
-          room = room-set ps R (b * 8 + p) x (omega arith) (subst Fits (sym g) gone);
-          free = λ fs l E. free-set ps R b p lb lp x 0 fs l E (omega arith);
+          room = room-set ps R k x (omega arith) (subst Fits (sym g) gone);
+          free = λ fs l E. free-set ps R b p (omega arith) lp x 0 fs l E (omega arith);
+          held = column-less heldOf (omega arith);
+          kept = column-less keptOf (omega arith);
+          beside = column-same;
         }
 
-    pub lost-switch : deniedOne n draw ps p ≡ At j → 0 < deniedOf (placeAt ps (b * 8 + p)) → x ≡ outbidSwitch (placeAt ps (b * 8 + p))
-        → Lost n draw ps p (record { at = b * 8 + p; place = x; owner = b; freed = 1; more = 1 })
+    pub lost-switch : deniedOne n draw ps p ≡ At j → 0 < deniedOf (placeAt ps k) → x ≡ outbidSwitch (placeAt ps k)
+        → Lost n draw ps p (record { at = k; place = x; owner = b; freed = 1; more = 1 })
     lost-switch e some g =
-        let F = R .each (b * 8 + p) in
-        let gone : Fits (outbidSwitch (placeAt ps (b * 8 + p))) =
+        let F = R .each k in
+        let gone : Fits (outbidSwitch (placeAt ps k)) =
         record { outs = F .outs; switches = omega (arith, F .switches); rises = F .rises } in
         let less = ap deniedOf g in
+        let h = ap heldOf g in
+        let i = ap keptOf g in
         record {
           at = omega arith;
-          owner = lb;
+          owner = omega arith;
           freed = omega arith;
           more = omega arith;
           makes = λ fs c.
-              ap₂ (λ ps fs. outbid ps fs (c + 1)) (ap (set ps (b * 8 + p)) g ∙ ap (λ b. changed outbidSwitch ps (b * 8 + p)) d) (ap (freed fs) d)
+              ap₂ (λ ps fs. outbid ps fs (c + 1)) (ap (set ps k) g ∙ ap (λ b. changed outbidSwitch ps (b * 8 + p)) d) (ap (freed fs) d)
               ∙ sym (ap (λ q. outbidBy n draw q (outbid ps fs c) p) e);
-          room = room-set ps R (b * 8 + p) x (omega arith) (subst Fits (sym g) gone);
-          free = λ fs l E. free-set ps R b p lb lp x 1 fs l E (omega arith);
+          room = room-set ps R k x (omega arith) (subst Fits (sym g) gone);
+          free = λ fs l E. free-set ps R b p (omega arith) lp x 1 fs l E (omega arith);
+          held = column-less heldOf (omega arith);
+          kept = column-less keptOf (omega arith);
+          beside = column-same;
         }

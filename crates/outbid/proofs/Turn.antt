@@ -1,25 +1,30 @@
 -- The loop of step 4: what is left gives the same answer after every tranche outbid. Assumes nothing.
-use mathlib.Core.Path.{_≡_, refl, sym, _∙_, ap}
-use mathlib.Core.Bool.{Bool}
+use mathlib.Core.Path.{_≡_, refl, sym, _∙_, ap, ap₂}
+use mathlib.Core.Bool.{Bool, true, false, _&&_, not}
 use mathlib.Core.List.{List}
 use Prim.Native.Nat.{ℕ, zero, suc, _+_, _-_, _*_, _≤_, _<_}
 use native.Mathlib.Omega.{arith}
-use lib.ListN.{set, length, length-set, replicate, length-replicate, getD-replicate}
+use borrow.Author.Tests.{eqb-true, eqb-false}
+use lib.ListN.{getD, set, length, length-set, replicate, length-replicate, getD-replicate}
+use lib.Seq.{getD-set-same, getD-set-other}
+use lib.Dec.{eqb, ltb}
 use Rattle.rules.specs.declared.Tranches.{Tranches}
+use Rattle.rules.specs.declared.Pick.{Pick}
 use Rattle.rules.specs.declared.Pick.the-variants.{At, Nobody}
 use Rattle.rules.specs.declared.Place.{Place}
-use Rattle.rules.specs.declared.Terms.{Terms}
 use Rattle.rules.specs.declared.Outbid.{Outbid}
 use Rattle.rules.specs.Count.{sumUpTo, firstUpTo, never}
 use Rattle.rules.specs.Units.{tranches}
-use Rattle.rules.specs.Settings.{targetOf}
-use Rattle.rules.specs.Accept.{placeAt, every, keptOf}
+use Rattle.rules.specs.Held.{standing, above}
+use Rattle.rules.specs.Accept.{placeAt, column, every, heldOf, keptOf}
 use Rattle.rules.specs.Outbid.{outbid, whileOver, outbidStep, over, outbidLoop, outbidAll}
 use Rattle.rules.specs.Round.{drawn}
 use Rattle.rules.proofs.Sums.{best-found}
-use Rattle.search.specs.Room.{Room, isOne}
+use Rattle.search.specs.Room.{Room, Drawn, isOne, targetOn}
+use Rattle.search.specs.Step.{Sums}
+use Rattle.search.proofs.Laws.{first-ext, first-before, column-small}
 use Rattle.outbid.specs.declared.Loss.{Loss}
-use Rattle.outbid.specs.Loss.{deniedOf, Free, paid, Lost}
+use Rattle.outbid.specs.Loss.{Counted, overBy, Looking, deniedOf, Free, paid, Lost}
 
 -- ---- one turn of the definition
 
@@ -39,6 +44,24 @@ module _ (m n : ℕ) (target : ℕ → ℕ) (tick : ℕ → Bool) (draw : ℕ �
   loop-out zero l = refl
   loop-out (suc f) l = absurd (let z : ⊥ = omega arith in z)
 
+-- the same targets give the same
+module _ (m n : ℕ) (f g : ℕ → ℕ) (tick : ℕ → Bool) (draw : ℕ → ℕ) (same : (p : ℕ) → p < m → f p ≡ g p) where
+  ext-by : (k : ℕ) (s : Outbid) (q : Pick)
+      → ((t : Outbid) → outbidLoop m n f tick draw k t ≡ outbidLoop m n g tick draw k t)
+      → whileOver q (λ p. outbidLoop m n f tick draw k (outbidStep n draw s p)) s
+      ≡ whileOver q (λ p. outbidLoop m n g tick draw k (outbidStep n draw s p)) s
+  ext-by k s (At p) h = h (outbidStep n draw s p)
+  ext-by k s Nobody h = refl
+
+  pub loop-ext : (k : ℕ) (s : Outbid) → outbidLoop m n f tick draw k s ≡ outbidLoop m n g tick draw k s
+  unfolding outbidLoop
+  loop-ext zero s = refl
+  loop-ext (suc k) s =
+      rw (first-ext (over n f tick (s .places)) (over n g tick (s .places)) m
+      (λ p l. ap (λ t. not (tick p)
+      && (above (standing (column heldOf (s .places) p n) t) && ltb 0 (column keptOf (s .places) p n))) (same p l)))
+      (ext-by k s (firstUpTo (over n g tick (s .places)) m) (loop-ext k))
+
 -- ---- one turn of the code
 
 row-small : (ps : List Place) → Room ps → (b m : ℕ) → sumUpTo (λ p. deniedOf (placeAt ps (b * 8 + p))) m ≤ 7500 * m
@@ -51,49 +74,159 @@ none-free ps R b l =
     let r = row-small ps R b 8 in
     omega arith
 
-module _ (t : Terms) (ticks order : List ℕ) (ps₀ : List Place) where
-  pub record Turn (ps : List Place) (fs : List Tranches) (count fuel : ℕ) : Type 0 where
-    pub same : outbidLoop (t .products) (t .bidders) (targetOf t) (isOne ticks) (drawn order) fuel (outbid ps fs count)
-        ≡ outbidAll (t .products) (t .bidders) (targetOf t) (isOne ticks) (drawn order) ps₀ (replicate 32 (tranches 0))
+-- a sum of product p less by what the product lost
+sums-less : (f : Place → ℕ) (ps qs : List Place) (n : ℕ) (sums : List ℕ) (p by : ℕ) → p < length sums → p < 8 → Sums f sums ps n
+    → column f qs p n + by ≡ column f ps p n → ((q : ℕ) → q < 8 → (q ≡ p → ⊥) → column f qs q n ≡ column f ps q n)
+    → Sums f (set sums p (getD sums p 0 - by)) qs n
+sums-less f ps qs n sums p by i lp S h t q lq = at (eqb q p) refl
+  where
+    at : (b : Bool) → eqb q p ≡ b → getD (set sums p (getD sums p 0 - by)) q 0 ≡ column f qs q n
+    at true e =
+        let s = S p lp in
+        let w : getD sums p 0 - by ≡ column f qs p n = omega arith in
+        rw (eqb-true q p e, getD-set-same) w
+    at false e =
+        let d = eqb-false q p e in
+        rw getD-set-other (S q lq ∙ sym (t q lq d))
+
+module _ (m n : ℕ) (targets ticks order : List ℕ) (ps₀ : List Place) where
+  abbrev pub rest : ℕ → Outbid → Outbid
+  rest fuel s = outbidLoop m n (targetOn targets) (isOne ticks) (drawn order) fuel s
+
+  abbrev pub whole : Outbid
+  whole = outbidAll m n (targetOn targets) (isOne ticks) (drawn order) ps₀ (replicate 32 (tranches 0))
+
+  -- no product before `start` is over
+  pub record Turn (ps : List Place) (held kept : List ℕ) (fs : List Tranches) (count start fuel : ℕ) : Type 0 where
+    pub same : rest fuel (outbid ps fs count) ≡ whole
     pub room : Room ps
     pub long : length fs ≡ 32
     pub free : Free fs ps
     pub some : count + fuel ≤ 33553920
+    pub sums : Counted ps held kept n
+    pub start-in : start ≤ m
+    pub before : firstUpTo (overBy held kept targets ticks) start ≡ Nobody
 
-  pub turn-start : (fuel : ℕ) → Room ps₀ → fuel ≡ every keptOf ps₀ (t .bidders) → fuel ≤ 33553920
-      → Turn ps₀ (replicate 32 (tranches 0)) 0 fuel
-  turn-start fuel R e l = record {
-    same = ap (λ f. outbidLoop (t .products) (t .bidders) (targetOf t) (isOne ticks) (drawn order) f (outbid ps₀ (replicate 32 (tranches 0)) 0)) e;
+  pub turn-start : (held kept : List ℕ) (fuel : ℕ) → Room ps₀ → Counted ps₀ held kept n → fuel ≡ every keptOf ps₀ n
+      → fuel ≤ 33553920 → Turn ps₀ held kept (replicate 32 (tranches 0)) 0 0 fuel
+  turn-start held kept fuel R S e l = record {
+    same = ap (λ f. rest f (outbid ps₀ (replicate 32 (tranches 0)) 0)) e;
     room = R;
     long = length-replicate 32 (tranches 0);
     free = none-free ps₀ R;
     some = omega arith;
+    sums = S;
+    start-in = omega arith;
+    before = refl;
   }
 
-  module _ (few : t .products ≤ 8) (ps : List Place) (fs : List Tranches) (count fuel : ℕ) (T : Turn ps fs count fuel) where
-    pub turn-none : firstUpTo (over (t .bidders) (targetOf t) (isOne ticks) ps) (t .products) ≡ Nobody
-        → outbid ps fs count ≡ outbidAll (t .products) (t .bidders) (targetOf t) (isOne ticks) (drawn order) ps₀ (replicate 32 (tranches 0))
-    turn-none e = sym (loop-none (t .products) (t .bidders) (targetOf t) (isOne ticks) (drawn order) (outbid ps fs count) fuel e) ∙ T .same
+-- the loop's values, with what the caller ensures
+pub record Loop : Type 0 where
+  pub m : ℕ
+  pub n : ℕ
+  pub targets : List ℕ
+  pub ticks : List ℕ
+  pub order : List ℕ
+  pub ps₀ : List Place
+  pub ps : List Place
+  pub held : List ℕ
+  pub kept : List ℕ
+  pub fs : List Tranches
+  pub count : ℕ
+  pub start : ℕ
+  pub fuel : ℕ
+  pub few : m ≤ 8
+  pub draw : Drawn n order
+  pub turn : Turn m n targets ticks order ps₀ ps held kept fs count start fuel
 
-    pub turn-out : fuel ≤ 0
-        → outbid ps fs count ≡ outbidAll (t .products) (t .bidders) (targetOf t) (isOne ticks) (drawn order) ps₀ (replicate 32 (tranches 0))
-    turn-out l = sym (loop-out (t .products) (t .bidders) (targetOf t) (isOne ticks) (drawn order) (outbid ps fs count) fuel l) ∙ T .same
+module _ (w : Loop) where
+  abbrev all : Outbid
+  all = whole (w .m) (w .n) (w .targets) (w .ticks) (w .order) (w .ps₀)
 
-    module _ (p : ℕ) (e : firstUpTo (over (t .bidders) (targetOf t) (isOne ticks) ps) (t .products) ≡ At p) where
-      pub turn-product : p < 8
-      turn-product = let f = best-found (over (t .bidders) (targetOf t) (isOne ticks) ps) never (t .products) p e in omega (arith, f .0)
+  abbrev here : Outbid
+  here = outbid (w .ps) (w .fs) (w .count)
 
-      pub turn-again : (o : Loss) → 0 < fuel → Lost (t .bidders) (drawn order) ps p o
-          → Turn (set ps (o .at) (o .place)) (paid fs o) (count + o .more) (fuel - 1)
-      turn-again o l L =
-          let z : suc (fuel - 1) ≡ fuel = omega arith in
+  abbrev pub firstOver : Pick
+  firstOver = firstUpTo (overBy (w .held) (w .kept) (w .targets) (w .ticks)) (w .m)
+
+  -- the code looks at what it has counted, the definition counts anew
+  counted : (q : Pick) → firstOver ≡ q → firstUpTo (over (w .n) (targetOn (w .targets)) (isOne (w .ticks)) (w .ps)) (w .m) ≡ q
+  counted q e =
+      sym (first-ext (overBy (w .held) (w .kept) (w .targets) (w .ticks))
+      (over (w .n) (targetOn (w .targets)) (isOne (w .ticks)) (w .ps)) (w .m)
+      (λ p l. ap₂ (λ h k. not (isOne (w .ticks) p) && (above (standing h (targetOn (w .targets) p)) && ltb 0 k))
+      (w .turn .sums .holds p (omega (arith, w .few))) (w .turn .sums .keeps p (omega (arith, w .few)))))
+      ∙ e
+
+  pub turn-looking : Looking (w .held) (w .kept) (w .targets) (w .ticks) (w .start) (w .m)
+  turn-looking = record {
+    few = w .few;
+    start-in = w .turn .start-in;
+    before = w .turn .before;
+    small = λ q l. omega (arith, w .turn .sums .holds q l, column-small (w .ps) (w .turn .room) (w .n) q (w .draw .few));
+  }
+
+  pub turn-none : firstOver ≡ Nobody → here ≡ all
+  turn-none e =
+      sym (loop-none (w .m) (w .n) (targetOn (w .targets)) (isOne (w .ticks)) (drawn (w .order)) here (w .fuel) (counted Nobody e))
+      ∙ w .turn .same
+
+  pub turn-out : w .fuel ≤ 0 → here ≡ all
+  turn-out l =
+      sym (loop-out (w .m) (w .n) (targetOn (w .targets)) (isOne (w .ticks)) (drawn (w .order)) here (w .fuel) l) ∙ w .turn .same
+
+  module _ (p : ℕ) (e : firstOver ≡ At p) where
+    found : (p < w .m) × (overBy (w .held) (w .kept) (w .targets) (w .ticks) p ≡ true)
+    found = best-found (overBy (w .held) (w .kept) (w .targets) (w .ticks)) never (w .m) p e
+
+    pub turn-product : p < 8
+    turn-product = omega (arith, found .0, w .few)
+
+    module _ (o : Loss) (L : Lost (w .n) (drawn (w .order)) (w .ps) p o) where
+      -- there is as much to lose
+      pub turn-held : o .more ≤ getD (w .held) p 0
+      turn-held = omega (arith, L .held, w .turn .sums .holds p turn-product)
+
+      pub turn-kept : o .more ≤ getD (w .kept) p 0
+      turn-kept = omega (arith, L .kept, w .turn .sums .keeps p turn-product)
+
+      abbrev lessOf : List ℕ → List ℕ
+      lessOf sums = set sums p (getD sums p 0 - o .more)
+
+      -- the products before p are as they were
+      before : firstUpTo (overBy (lessOf (w .held)) (lessOf (w .kept)) (w .targets) (w .ticks)) p ≡ Nobody
+      before =
+          first-ext (overBy (lessOf (w .held)) (lessOf (w .kept)) (w .targets) (w .ticks))
+          (overBy (w .held) (w .kept) (w .targets) (w .ticks)) p
+          (λ q l. ap₂ (λ h k. not (isOne (w .ticks) q) && (above (standing h (targetOn (w .targets) q)) && ltb 0 k))
+          (getD-set-other (w .held) p q _ 0 (λ z. omega arith)) (getD-set-other (w .kept) p q _ 0 (λ z. omega arith)))
+          ∙ first-before (overBy (w .held) (w .kept) (w .targets) (w .ticks)) (w .m) p e
+
+      pub turn-again : 0 < w .fuel
+          → Turn (w .m) (w .n) (w .targets) (w .ticks) (w .order) (w .ps₀) (set (w .ps) (o .at) (o .place)) (lessOf (w .held))
+          (lessOf (w .kept)) (paid (w .fs) o) (w .count + o .more) p (w .fuel - 1)
+      turn-again l =
+          let z : suc (w .fuel - 1) ≡ w .fuel = omega arith in
+          let S = w .turn .sums in
+          let qs = set (w .ps) (o .at) (o .place) in
           record {
             same =
-                ap (outbidLoop (t .products) (t .bidders) (targetOf t) (isOne ticks) (drawn order) (fuel - 1)) (L .makes fs count)
-                ∙ sym (loop-step (t .products) (t .bidders) (targetOf t) (isOne ticks) (drawn order) (outbid ps fs count) (fuel - 1) p e)
-                ∙ ap (λ f. outbidLoop (t .products) (t .bidders) (targetOf t) (isOne ticks) (drawn order) f (outbid ps fs count)) z ∙ T .same;
+                ap (rest (w .m) (w .n) (w .targets) (w .ticks) (w .order) (w .ps₀) (w .fuel - 1)) (L .makes (w .fs) (w .count))
+                ∙ sym (loop-step (w .m) (w .n) (targetOn (w .targets)) (isOne (w .ticks)) (drawn (w .order)) here (w .fuel - 1) p
+                (counted (At p) e))
+                ∙ ap (λ f. rest (w .m) (w .n) (w .targets) (w .ticks) (w .order) (w .ps₀) f here) z ∙ w .turn .same;
             room = L .room;
-            long = length-set fs (o .owner) _ ∙ T .long;
-            free = L .free fs (T .long) (T .free);
-            some = omega (arith, T .some, L .more);
+            long = length-set (w .fs) (o .owner) _ ∙ w .turn .long;
+            free = L .free (w .fs) (w .turn .long) (w .turn .free);
+            some = omega (arith, w .turn .some, L .more);
+            sums = record {
+              held-long = length-set (w .held) p _ ∙ S .held-long;
+              holds = sums-less heldOf (w .ps) qs (w .n) (w .held) p (o .more) (omega (arith, turn-product, S .held-long))
+                  turn-product (S .holds) (L .held) (L .beside heldOf);
+              kept-long = length-set (w .kept) p _ ∙ S .kept-long;
+              keeps = sums-less keptOf (w .ps) qs (w .n) (w .kept) p (o .more) (omega (arith, turn-product, S .kept-long))
+                  turn-product (S .keeps) (L .kept) (L .beside keptOf);
+            };
+            start-in = omega (arith, found .0);
+            before = before;
           }

@@ -1,60 +1,114 @@
 // "Calculating", steps 3 and 4, on products that didn't tick.
 ghost use mathlib.Core.Path.{_≡_};
 ghost use mathlib.Core.Bool.{_&&_, not};
-ghost use Prim.Native.Nat.{_+_, _*_, _≤_, _<_};
-ghost use lib.ListN.{replicate};
+ghost use Prim.Native.Nat.{_+_, _-_, _*_, _≤_, _<_};
+ghost use lib.ListN.{getD, set, length, replicate};
 ghost use lib.Dec.{eqb, ltb};
 ghost use Rattle.rules.specs.declared.Pick.the-variants.{Nobody};
 ghost use Rattle.rules.specs.Units.{tranches};
 ghost use Rattle.rules.specs.Count.{firstUpTo};
-ghost use Rattle.rules.specs.Settings.{targetOf};
-ghost use Rattle.rules.specs.Held.{goingIn, deniedIn, standing, above};
-ghost use Rattle.rules.specs.Accept.{every, keptOf};
-ghost use Rattle.rules.specs.Outbid.{deemIf, deemedUpTo, deniedOne, over, outbidAll};
+ghost use Rattle.rules.specs.Held.{standing, above};
+ghost use Rattle.rules.specs.Accept.{changed, column, every, heldOf, keptOf};
+ghost use Rattle.rules.specs.Outbid.{deemIf, deemedUpTo, deniedOne, outbid, outbidAll};
 ghost use Rattle.rules.specs.Round.{drawn};
-ghost use Rattle.search.specs.Room.{Room, Drawn, isOne};
-ghost use Rattle.outbid.specs.Loss.{Lost};
-use rules::Outbid;
+ghost use Rattle.search.specs.Room.{Room, Drawn, isOne, targetOn};
+ghost use Rattle.table.specs.Rows.{placesIn};
+ghost use Rattle.outbid.specs.Loss.{Counted, overBy, Looking, Lost};
 use rules::Pick;
 use rules::Place;
-use rules::Terms;
 use rules::Tranches;
 use search::Best;
+use table::WIDTH;
 
 // ---- Step 3
 
 // "a bidder with denied switches there and an increase left is deemed to bid them all at the going price"
-fn deem_one(l: Place, tick: u8) -> Place
-    requires { ⌜ goingIn (l .holds) + deniedIn (l .holds) ≤ 65535 ⌝ }
-    ensures { λ r. ⌜ r ≡ deemIf (eqb tick 1) l ⌝ }
+fn deem_at(ps: &mut [[u32; WIDTH]; 256], k: usize, tick: u8)
+    requires { ⌜ (k < 256) × Room (placesIn (now ps)) ⌝ }
+    ensures { λ _. ⌜ placesIn (now (ps .exit)) ≡ changed (deemIf (eqb tick 1)) (placesIn (now (ps .entry))) k ⌝ }
 {
     if tick == 1 {
-        return l;
+        return;
     }
-    if 0 < l.rise.0 {
-        return l.deem();
+    if table::rise(ps, k) == 0 {
+        return;
     }
-    l
+    let l = table::place_at(ps, k);
+    let x = l.deem();
+    table::put(ps, k, x);
 }
 
-pub fn deem_all(places: [Place; 256], ticks: [u8; 8], bidders: usize) -> [Place; 256]
-    requires { ⌜ (bidders ≤ 32) × Room places ⌝ }
-    ensures { λ r. ⌜ (r ≡ deemedUpTo (isOne ticks) places (bidders * 8)) × Room r ⌝ }
+pub fn deem_all(ps: &mut [[u32; WIDTH]; 256], ticks: &[u8; 8], bidders: usize)
+    requires { ⌜ (bidders ≤ 32) × Room (placesIn (now ps)) ⌝ }
+    ensures { λ _. ⌜ (placesIn (now (ps .exit)) ≡ deemedUpTo (isOne (now (ticks .entry))) (placesIn (now (ps .entry))) (bidders * 8)) × Room (placesIn (now (ps .exit))) ⌝ }
 {
     let n = bidders * 8;
-    let mut work = places;
     let mut k: usize = 0;
     while k < n {
-        let p = k % 8;
-        let l = work[k];
-        let x = deem_one(l, ticks[p]);
-        work[k] = x;
+        deem_at(ps, k, ticks[k % 8]);
         k += 1;
     }
-    work
 }
 
-// ---- Step 4
+// ---- Step 4: what is held and what is kept of each product stand beside the places
+
+struct Sums {
+    pub held: u32,
+    pub kept: u32,
+}
+
+fn sums_on(ps: &[[u32; WIDTH]; 256], product: usize, bidders: usize) -> Sums
+    requires { ⌜ (product < 8) × (bidders ≤ 32) ⌝ }
+    ensures { λ r. ⌜ (r .held ≡ column heldOf (placesIn (now (ps .entry))) product bidders) × (r .kept ≡ column keptOf (placesIn (now (ps .entry))) product bidders) ⌝ }
+{
+    let mut held: u32 = 0;
+    let mut kept: u32 = 0;
+    let mut i: usize = 0;
+    while i < bidders {
+        let k = i * 8 + product;
+        held += table::held(ps, k);
+        kept += table::kept(ps, k);
+        i += 1;
+    }
+    Sums { held, kept }
+}
+
+fn sum_all(ps: &[[u32; WIDTH]; 256], held: &mut [u32; 8], kept: &mut [u32; 8], bidders: usize)
+    requires { ⌜ (bidders ≤ 32) × ((length (now held) ≡ 8) × (length (now kept) ≡ 8)) ⌝ }
+    ensures { λ _. ⌜ Counted (placesIn (now (ps .entry))) (now (held .exit)) (now (kept .exit)) bidders ⌝ }
+{
+    let mut p: usize = 0;
+    while p < 8 {
+        let s = sums_on(ps, p, bidders);
+        held[p] = s.held;
+        kept[p] = s.kept;
+        p += 1;
+    }
+}
+
+// The kept tranches of all bidders.
+fn kept_by_all(ps: &[[u32; WIDTH]; 256], bidders: usize) -> u32
+    requires { ⌜ bidders ≤ 32 ⌝ }
+    ensures { λ r. ⌜ (r ≡ every keptOf (placesIn (now (ps .entry))) bidders) × (r ≤ 33553920) ⌝ }
+{
+    let n = bidders * 8;
+    let mut sum: u32 = 0;
+    let mut k: usize = 0;
+    while k < n {
+        sum += table::kept(ps, k);
+        k += 1;
+    }
+    sum
+}
+
+fn lower(sums: &mut [u32; 8], p: usize, by: u32)
+    requires { ⌜ (p < 8) × ((length (now sums) ≡ 8) × (by ≤ getD (now sums) p 0)) ⌝ }
+    ensures { λ _. ⌜ now (sums .exit) ≡ set (now (sums .entry)) p (getD (now (sums .entry)) p 0 - by) ⌝ }
+{
+    sums[p] = sums[p] - by;
+}
+
+// ---- The product
 
 fn is_over(held: u32, kept: u32, target: u16, tick: u8) -> bool
     requires { ⌜ held ≤ 10000000 ⌝ }
@@ -69,33 +123,29 @@ fn is_over(held: u32, kept: u32, target: u16, tick: u8) -> bool
     false
 }
 
-// The first product that didn't tick, is above target and has a kept tranche.
-fn first_over(places: [Place; 256], t: Terms, ticks: [u8; 8]) -> Pick
-    requires { ⌜ (t .products ≤ 8) × (t .bidders ≤ 32) ⌝ }
-    ensures { λ r. ⌜ r ≡ firstUpTo (over (t .bidders) (targetOf t) (isOne ticks) places) (t .products) ⌝ }
+// The first product that didn't tick, is above target and has a kept tranche. None before `from` is one.
+fn first_over(
+    held: &[u32; 8],
+    kept: &[u32; 8],
+    targets: &[u16; 8],
+    ticks: &[u8; 8],
+    from: usize,
+    products: usize,
+) -> Pick
+    requires { ⌜ Looking (now held) (now kept) (now targets) (now ticks) from products ⌝ }
+    ensures { λ r. ⌜ r ≡ firstUpTo (overBy (now (held .entry)) (now (kept .entry)) (now (targets .entry)) (now (ticks .entry))) products ⌝ }
 {
-    let m = t.products as usize;
-    let n = t.bidders as usize;
-    let mut p: usize = 0;
-    while p < m {
-        let mut held: u32 = 0;
-        let mut kept: u32 = 0;
-        let mut i: usize = 0;
-        while i < n {
-            let k = i * 8 + p;
-            let l = places[k];
-            held += l.holds.held();
-            kept += l.holds.kept();
-            i += 1;
-        }
-        let item = t.item[p];
-        if is_over(held, kept, item.target.0, ticks[p]) {
+    let mut p = from;
+    while p < products {
+        if is_over(held[p], kept[p], targets[p], ticks[p]) {
             return Pick::At(p);
         }
         p += 1;
     }
     Pick::Nobody
 }
+
+// ---- The tranche outbid
 
 // What one outbid tranche changes: a place, its owner's free eligibility, and the count.
 struct Loss {
@@ -107,23 +157,22 @@ struct Loss {
 }
 
 // No denied switch is left: "then the highest exit price; ties by earliest draw".
-fn lose_retained(places: [Place; 256], order: &[u8], p: usize, bidders: usize) -> Loss
-    requires { ⌜ Room places × (Drawn bidders (now order) × ((p < 8) × (deniedOne bidders (drawn (now order)) places p ≡ Nobody))) ⌝ }
-    ensures { λ r. ⌜ Lost bidders (drawn (now (order .entry))) places p r ⌝ }
+fn lose_retained(ps: &[[u32; WIDTH]; 256], order: &[u8], p: usize, bidders: usize) -> Loss
+    requires { ⌜ Room (placesIn (now ps)) × (Drawn bidders (now order) × ((p < 8) × (deniedOne bidders (drawn (now order)) (placesIn (now ps)) p ≡ Nobody))) ⌝ }
+    ensures { λ r. ⌜ Lost bidders (drawn (now (order .entry))) (placesIn (now (ps .entry))) p r ⌝ }
 {
     let mut best = Best::none();
     let mut i: usize = 0;
     while i < bidders {
         let b = search::bidder_at(order, i, bidders);
         let k = b * 8 + p;
-        let l = places[k];
-        let exit = l.holds.retained.exit;
-        best = best.higher(i, 0 < l.holds.retained.count.0, exit);
+        let exit = table::exit(ps, k);
+        best = best.higher(i, 0 < table::retained(ps, k), exit);
         i += 1;
     }
     let who = best.who;
     let Pick::At(j) = who else {
-        let l = places[0];
+        let l = table::place_at(ps, 0);
         return Loss {
             at: 0,
             place: l,
@@ -134,7 +183,7 @@ fn lose_retained(places: [Place; 256], order: &[u8], p: usize, bidders: usize) -
     };
     let b = search::bidder_at(order, j, bidders);
     let at = b * 8 + p;
-    let l = places[at];
+    let l = table::place_at(ps, at);
     let place = l.outbid_withdrawal();
     // "An outbid withdrawal is gone."
     let freed = 0;
@@ -148,16 +197,16 @@ fn lose_retained(places: [Place; 256], order: &[u8], p: usize, bidders: usize) -
 }
 
 // "denied switches first"; "An outbid denied switch becomes one free eligibility of its owner."
-fn lose(places: [Place; 256], order: &[u8], p: usize, bidders: usize) -> Loss
-    requires { ⌜ Room places × (Drawn bidders (now order) × (p < 8)) ⌝ }
-    ensures { λ r. ⌜ Lost bidders (drawn (now (order .entry))) places p r ⌝ }
+fn lose(ps: &[[u32; WIDTH]; 256], order: &[u8], p: usize, bidders: usize) -> Loss
+    requires { ⌜ Room (placesIn (now ps)) × (Drawn bidders (now order) × (p < 8)) ⌝ }
+    ensures { λ r. ⌜ Lost bidders (drawn (now (order .entry))) (placesIn (now (ps .entry))) p r ⌝ }
 {
     let mut i: usize = 0;
     while i < bidders {
         let b = search::bidder_at(order, i, bidders);
         let at = b * 8 + p;
-        let l = places[at];
-        if 0 < l.holds.denied.0 {
+        if 0 < table::denied(ps, at) {
+            let l = table::place_at(ps, at);
             let place = l.outbid_switch();
             return Loss {
                 at,
@@ -169,57 +218,54 @@ fn lose(places: [Place; 256], order: &[u8], p: usize, bidders: usize) -> Loss
         }
         i += 1;
     }
-    lose_retained(places, order, p, bidders)
+    lose_retained(ps, order, p, bidders)
 }
 
-// The kept tranches of all bidders.
-fn kept(places: [Place; 256], bidders: usize) -> u32
-    requires { ⌜ bidders ≤ 32 ⌝ }
-    ensures { λ r. ⌜ (r ≡ every keptOf places bidders) × (r ≤ 33553920) ⌝ }
-{
-    let n = bidders * 8;
-    let mut sum: u32 = 0;
-    let mut k: usize = 0;
-    while k < n {
-        let l = places[k];
-        sum += l.holds.kept();
-        k += 1;
-    }
-    sum
+// Each bidder's free eligibility after step 4, and the tranches outbid.
+pub struct Freed {
+    pub free: [Tranches; 32],
+    pub count: u32,
 }
 
-// "while held exceeds target and a kept tranche remains, one is outbid"
-pub fn outbid_all(places: [Place; 256], t: Terms, ticks: [u8; 8], order: &[u8]) -> Outbid
-    requires { ⌜ (t .products ≤ 8) × (Drawn (t .bidders) (now order) × Room places) ⌝ }
-    ensures { λ r. ⌜ r ≡ outbidAll (t .products) (t .bidders) (targetOf t) (isOne ticks) (drawn (now (order .entry))) places (replicate 32 (tranches 0)) ⌝ }
+// "while held exceeds target and a kept tranche remains, one is outbid". A product is done with before the next is looked at: what is
+// outbid there changes nothing of those before it.
+pub fn outbid_all(
+    ps: &mut [[u32; WIDTH]; 256],
+    targets: &[u16; 8],
+    ticks: &[u8; 8],
+    order: &[u8],
+    products: usize,
+    bidders: usize,
+) -> Freed
+    requires { ⌜ (products ≤ 8) × (Drawn bidders (now order) × Room (placesIn (now ps))) ⌝ }
+    ensures { λ r. ⌜ outbid (placesIn (now (ps .exit))) (r .free) (r .count) ≡ outbidAll products bidders (targetOn (now (targets .entry))) (isOne (now (ticks .entry))) (drawn (now (order .entry))) (placesIn (now (ps .entry))) (replicate 32 (tranches 0)) ⌝ }
 {
-    let n = t.bidders as usize;
-    let mut work = places;
+    let mut held = [0u32; 8];
+    let mut kept = [0u32; 8];
+    sum_all(ps, &mut held, &mut kept, bidders);
     let mut free = [Tranches(0); 32];
     let mut count: u32 = 0;
-    let mut fuel = kept(places, n);
+    let mut from: usize = 0;
+    let mut fuel = kept_by_all(ps, bidders);
     while 0 < fuel {
-        let q = first_over(work, t, ticks);
+        let q = first_over(&held, &kept, targets, ticks, from, products);
         let Pick::At(p) = q else {
-            return Outbid {
-                places: work,
-                free,
-                count,
-            };
+            return Freed { free, count };
         };
-        let o = lose(work, order, p, n);
+        let o = lose(ps, order, p, bidders);
         let at = o.at;
         let place = o.place;
         let owner = o.owner;
-        work[at] = place;
+        let more = o.more;
+        table::put(ps, at, place);
+        lower(&mut held, p, more);
+        lower(&mut kept, p, more);
         let f = free[owner];
-        free[owner] = Tranches(f.0 + o.freed);
-        count += o.more;
+        let has = f.0 + o.freed;
+        free[owner] = Tranches(has);
+        count += more;
+        from = p;
         fuel -= 1;
     }
-    Outbid {
-        places: work,
-        free,
-        count,
-    }
+    Freed { free, count }
 }

@@ -1,141 +1,125 @@
 // Document 01, "Standing means": the clauses on open, closed and stopped states. What each says is in the crate rules,
 // specs/Standing.antt.
 ghost use mathlib.Core.Path.{_≡_};
-ghost use mathlib.Core.Bool.{true, _&&_, cond};
+ghost use mathlib.Core.Bool.{_&&_};
 ghost use Prim.Native.Nat.{_<_};
-ghost use lib.Dec.{ltb, eqb};
+ghost use lib.Dec.{eqb};
 ghost use Rattle.rules.specs.Count.{allUpTo};
 ghost use Rattle.rules.specs.Settings.{startOf, initialOf};
 ghost use Rattle.rules.specs.Held.{freeOf, recordAt};
 ghost use Rattle.rules.specs.Bid.{priceAt, beforeAt};
 ghost use Rattle.rules.specs.Standing.{recordZero, asOpened, nothingKept, openStands, endStands, phaseStands};
-ghost use Rattle.held.specs.Counts.{Counts};
-use rules::Auction;
+ghost use Rattle.rules.specs.Layout.{loaded};
+ghost use Rattle.book.specs.Lent.{Long, Lent};
 
-fn no_records(a: Auction) -> bool
-    ensures { λ r. ⌜ r ≡ allUpTo (λ k. recordZero (recordAt (a .records) k)) 256 ⌝ }
+fn no_records(s: &[u8]) -> bool
+    requires { ⌜ Long (now s) ⌝ }
+    ensures { λ r. ⌜ r ≡ allUpTo (λ k. recordZero (recordAt (loaded (now (s .entry)) .records) k)) 256 ⌝ }
 {
+    let mut ok = true;
     let mut k: usize = 0;
     while k < 256 {
-        let r = a.records[k];
-        if !r.is_zero() {
-            return false;
-        }
+        ok = ok & book::record(s, k).is_zero();
         k += 1;
     }
-    true
+    ok
 }
 
-fn free_is_initial(a: Auction) -> bool
-    ensures { λ r. ⌜ r ≡ allUpTo (λ b. eqb (freeOf a b) (initialOf (a .terms) b)) 32 ⌝ }
+fn free_is_initial(s: &[u8]) -> bool
+    requires { ⌜ Long (now s) ⌝ }
+    ensures { λ r. ⌜ r ≡ allUpTo (λ b. eqb (freeOf (loaded (now (s .entry))) b) (initialOf (loaded (now (s .entry)) .terms) b)) 32 ⌝ }
 {
-    let t = a.terms;
+    let mut ok = true;
     let mut b: usize = 0;
     while b < 32 {
-        let f = a.free[b];
-        let e = t.eligibility[b];
-        if f.0 != e.0 {
-            return false;
-        }
+        let f = book::free(s, b);
+        let e = book::initial(s, b);
+        ok = ok & (f.0 == e.0);
         b += 1;
     }
-    true
+    ok
 }
 
-fn at_start(a: Auction, p: usize) -> bool
-    requires { ⌜ p < 8 ⌝ }
-    ensures { λ r. ⌜ r ≡ (eqb (priceAt a p) (startOf (a .terms) p) && eqb (beforeAt a p) (startOf (a .terms) p)) ⌝ }
+fn at_start(s: &[u8], p: usize) -> bool
+    requires { ⌜ Long (now s) × (p < 8) ⌝ }
+    ensures { λ r. ⌜ r ≡ (eqb (priceAt (loaded (now (s .entry))) p) (startOf (loaded (now (s .entry)) .terms) p) && eqb (beforeAt (loaded (now (s .entry))) p) (startOf (loaded (now (s .entry)) .terms) p)) ⌝ }
 {
-    let t = a.terms;
-    let item = t.item[p];
-    if a.price[p] != item.start {
-        return false;
-    }
-    a.before[p] == item.start
+    let start = book::start(s, p).amount();
+    (book::price(s, p).amount() == start) & (book::before(s, p).amount() == start)
 }
 
-fn prices_at_start(a: Auction) -> bool
-    ensures { λ r. ⌜ r ≡ allUpTo (λ p. eqb (priceAt a p) (startOf (a .terms) p) && eqb (beforeAt a p) (startOf (a .terms) p)) 8 ⌝ }
+fn prices_at_start(s: &[u8]) -> bool
+    requires { ⌜ Long (now s) ⌝ }
+    ensures { λ r. ⌜ r ≡ allUpTo (λ p. eqb (priceAt (loaded (now (s .entry))) p) (startOf (loaded (now (s .entry)) .terms) p) && eqb (beforeAt (loaded (now (s .entry))) p) (startOf (loaded (now (s .entry)) .terms) p)) 8 ⌝ }
 {
+    let mut ok = true;
     let mut p: usize = 0;
     while p < 8 {
-        if !at_start(a, p) {
-            return false;
-        }
+        ok = ok & at_start(s, p);
         p += 1;
     }
-    true
+    ok
 }
 
 // "open round 1 is as opened, with p = q = starting price"
-fn as_opened(a: Auction) -> bool
-    ensures { λ r. ⌜ r ≡ asOpened a ⌝ }
+fn as_opened(s: &[u8]) -> bool
+    requires { ⌜ Long (now s) ⌝ }
+    ensures { λ r. ⌜ r ≡ asOpened (loaded (now (s .entry))) ⌝ }
 {
-    if !no_records(a) {
-        return false;
-    }
-    if !free_is_initial(a) {
-        return false;
-    }
-    prices_at_start(a)
+    no_records(s) & (free_is_initial(s) & prices_at_start(s))
 }
 
 // "In an open round 2 nothing is kept, which standing requires."
-fn nothing_kept(a: Auction) -> bool
-    requires { ⌜ Counts a ⌝ }
-    ensures { λ r. ⌜ r ≡ nothingKept a ⌝ }
+fn nothing_kept(s: &[u8]) -> bool
+    requires { ⌜ Lent (now s) ⌝ }
+    ensures { λ r. ⌜ r ≡ nothingKept (loaded (now (s .entry))) ⌝ }
 {
-    let m = a.terms.products as usize;
+    let m = book::products(s);
     let mut ok = true;
     let mut p: usize = 0;
     while p < m {
-        ok = ok & (held::kept_on(a, p) == 0);
+        ok = ok & (held::kept_on(s, p) == 0);
         p += 1;
     }
     ok
 }
 
 // "open later rounds have excess above 0"
-fn open_stands(a: Auction) -> bool
-    requires { ⌜ Counts a ⌝ }
-    ensures { λ r. ⌜ r ≡ openStands a ⌝ }
+fn open_stands(s: &[u8]) -> bool
+    requires { ⌜ Lent (now s) ⌝ }
+    ensures { λ r. ⌜ r ≡ openStands (loaded (now (s .entry))) ⌝ }
 {
-    if a.round == 1 {
-        return as_opened(a);
+    let round = book::round(s);
+    if round == 1 {
+        return as_opened(s);
     }
-    let over = held::excess(a) > 0;
-    if a.round == 2 {
-        return over & nothing_kept(a);
+    let over = held::excess(s) > 0;
+    if round == 2 {
+        return over & nothing_kept(s);
     }
     over
 }
 
 // "closed and stopped states meet step 5 and hold no cards"
-fn end_stands(a: Auction) -> bool
-    requires { ⌜ Counts a ⌝ }
-    ensures { λ r. ⌜ r ≡ endStands a ⌝ }
+fn end_stands(s: &[u8]) -> bool
+    requires { ⌜ Lent (now s) ⌝ }
+    ensures { λ r. ⌜ r ≡ endStands (loaded (now (s .entry))) ⌝ }
 {
-    if a.filed != 0 {
-        return false;
+    let none = book::filed(s) == 0;
+    let phase = book::phase(s);
+    let excess = held::excess(s);
+    if phase == 2 {
+        return none & (excess == 0);
     }
-    if a.phase == 2 {
-        return held::excess(a) == 0;
-    }
-    if a.phase != 3 {
-        return false;
-    }
-    if held::excess(a) == 0 {
-        return false;
-    }
-    held::stops(a)
+    none & ((phase == 3) & ((excess > 0) & held::stops(s)))
 }
 
-pub fn phase_stands(a: Auction) -> bool
-    requires { ⌜ Counts a ⌝ }
-    ensures { λ r. ⌜ r ≡ phaseStands a ⌝ }
+pub fn phase_stands(s: &[u8]) -> bool
+    requires { ⌜ Lent (now s) ⌝ }
+    ensures { λ r. ⌜ r ≡ phaseStands (loaded (now (s .entry))) ⌝ }
 {
-    if a.phase == 1 {
-        return open_stands(a);
+    if book::phase(s) == 1 {
+        return open_stands(s);
     }
-    end_stands(a)
+    end_stands(s)
 }

@@ -1,33 +1,63 @@
--- A price of either unit after its cut. Assumes nothing.
-use mathlib.Core.Path.{_≡_, refl, sym, _∙_, ap}
-use mathlib.Core.Bool.{Bool, true, false, cond}
+-- The next price of a unit, and the prices written. Assumes nothing.
+use mathlib.Core.Path.{_≡_, sym, ap, ap₂, _∙_}
+use mathlib.Core.Bool.{true, false, cond}
+use mathlib.Core.List.{List}
 use Prim.Native.Nat.{ℕ, _*_, _/_}
-use lib.Dec.{eqb}
 use lib.IntN.{ℤ}
+use lib.ListN.{getD}
 use Rattle.rules.specs.declared.Price.{Price}
 use Rattle.rules.specs.declared.Terms.{Terms}
-use Rattle.rules.specs.Units.{unitOf, amountOf, priceOf}
-use Rattle.rules.specs.Held.{above, aboveZero}
-use Rattle.rules.specs.Price.{decrementUpTo, decrementFor, fallen, priceFallen, nextPrice}
+use Rattle.rules.specs.declared.Quote.{Quote}
+use Rattle.rules.specs.declared.Auction.{Auction}
+use Rattle.rules.specs.Answers.{bidsOpen}
+use Rattle.rules.specs.Count.{listOf}
+use Rattle.rules.specs.Settings.{targetOf}
+use Rattle.rules.specs.Bid.{priceAt, beforeAt}
+use Rattle.rules.specs.Round.{opensAt}
+use Rattle.rules.specs.Layout.{stored}
+use Rattle.rules.specs.Units.{amountOf, priceOf, quote}
+use Rattle.rules.specs.Held.{above, aboveZero, standingOf}
+use Rattle.rules.specs.Price.{fallen, priceFallen, decrementUpTo, decrementFor, nextPrice, nextBefore}
+use Rattle.rules.proofs.Units.{amount-of, unit-of}
+use Rattle.rules.proofs.Lists.{list-at, list-long, list-is}
+use Rattle.storing.specs.Written.{Writes, withPhase, withRound, withPrices, amounts}
 
-amount-by : (t : Bool) (u x : ℕ) → eqb u 0 ≡ t → amountOf (priceOf u x) ≡ x
-amount-by true u x e = rw e
-amount-by false u x e = rw e
+module _ (u m : ℕ) (z : ℤ) {price : Price} (e : price ≡ priceOf u m) where
+  -- "the cut is p x decrement / 10,000, rounded half up, at least 1"
+  pub falls : (t : Terms) (target over pct d : ℕ) {r : Price} → above z ≡ true → over ≡ aboveZero z → pct ≡ 100 * over / target
+      → d ≡ decrementUpTo t pct (t .rows) → r ≡ priceFallen price d → r ≡ priceOf u (nextPrice t z target m)
+  falls t target over pct d h f g k j =
+      j ∙ unit-of u m (fallen (amountOf price) d) e
+      ∙ ap (priceOf u) (
+      ap (λ x. fallen x d) (amount-of u m e)
+      ∙ ap (fallen m) (k ∙ ap (λ x. decrementUpTo t x (t .rows)) (g ∙ ap (λ x. 100 * x / target) f))
+      ∙ sym (ap (λ b. cond b (fallen m (decrementFor t (aboveZero z) target)) m) h))
 
-amount-of : (u x : ℕ) → amountOf (priceOf u x) ≡ x
-amount-of u x = amount-by (eqb u 0) u x refl
+  -- "Other prices stay."
+  pub stays : (t : Terms) (target : ℕ) → above z ≡ false → price ≡ priceOf u (nextPrice t z target m)
+  stays t target h =
+      e ∙ ap (priceOf u) (sym (ap (λ b. cond b (fallen m (decrementFor t (aboveZero z) target)) m) h))
 
-fallen-amount : (u x d : ℕ) → amountOf (priceFallen (priceOf u x) d) ≡ fallen x d
-fallen-amount u x d = amount-of (unitOf (priceOf u x)) (fallen (amountOf (priceOf u x)) d) ∙ ap (λ x. fallen x d) (amount-of u x)
+  module _ (n : ℕ) {before : Price} (g : before ≡ priceOf u n) where
+    pub moves : above z ≡ true → price ≡ priceOf u (nextBefore z m n)
+    moves h = e ∙ ap (priceOf u) (sym (ap (λ b. cond b m n) h))
 
-module _ (t : Terms) (z : ℤ) (target p : ℕ) where
-  pub price-falls : (x pct d r : ℕ) (from into : Price) → above z ≡ true → x ≡ aboveZero z → pct ≡ 100 * x / target
-      → d ≡ decrementUpTo t pct (t .rows) → from ≡ priceOf (t .unit) p → into ≡ priceFallen from d → r ≡ amountOf into
-      → r ≡ nextPrice t z target p
-  price-falls x pct d r from into e f g h i j k =
-      k ∙ ap amountOf (j ∙ ap (λ q. priceFallen q d) i) ∙ fallen-amount (t .unit) p d
-      ∙ ap (fallen p) (h ∙ ap (λ x. decrementUpTo t x (t .rows)) (g ∙ ap (λ x. 100 * x / target) f))
-      ∙ sym (ap (λ b. cond b (fallen p (decrementFor t (aboveZero z) target)) p) e)
+    pub waits : above z ≡ false → before ≡ priceOf u (nextBefore z m n)
+    waits h = g ∙ ap (priceOf u) (sym (ap (λ b. cond b m n) h))
 
-  pub price-stays : above z ≡ false → p ≡ nextPrice t z target p
-  price-stays e = sym (ap (λ b. cond b (fallen p (decrementFor t (aboveZero z) target)) p) e)
+-- ---- the prices written
+
+-- the amounts of quotes in one unit
+pub amounts-of : (u : ℕ) (f : ℕ → ℕ) {qs : List Quote} → qs ≡ listOf (λ p. quote u (f p)) 8 → amounts qs ≡ listOf f 8
+amounts-of u f {qs} e =
+    list-is f 0 8 (amounts qs) (list-long _ 8) (λ p h.
+    list-at _ 0 8 p h ∙ amount-of u (f p) (ap (λ q. q .price) (ap (λ qs. getD qs p (quote 0 0)) e ∙ list-at (λ p. quote u (f p)) (quote 0 0) 8 p h)))
+
+-- phase, round and prices, one after the other
+pub opens : (a : Auction) (round : ℕ) (price before : List Quote) {s s₁ s₂ s₃ : List ℕ}
+    → amounts price ≡ listOf (λ p. nextPrice (a .terms) (standingOf a p) (targetOf (a .terms) p) (priceAt a p)) 8
+    → amounts before ≡ listOf (λ p. nextBefore (standingOf a p) (priceAt a p) (beforeAt a p)) 8
+    → s ≡ stored a → Writes s s₁ (λ a. withPhase a bidsOpen) → Writes s₁ s₂ (λ a. withRound a round)
+    → Writes s₂ s₃ (λ a. withPrices a (amounts price) (amounts before)) → s₃ ≡ stored (opensAt round a)
+opens a round price before e f h x y z =
+    z _ (y _ (x a h)) ∙ ap₂ (λ p q. stored (withPrices (withRound (withPhase a bidsOpen) round) p q)) e f

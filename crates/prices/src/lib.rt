@@ -1,36 +1,30 @@
 // "Next price of a product above target", and a round that opens at such prices.
 ghost use mathlib.Core.Path.{_≡_};
 ghost use mathlib.Core.Bool.{cond};
-ghost use Prim.Native.Nat.{_*_, _/_, _≤_};
+ghost use Prim.Native.Nat.{ℕ, _*_, _/_, _<_};
 ghost use lib.Dec.{leb};
-ghost use Rattle.rules.specs.Held.{aboveZero};
+ghost use Rattle.rules.specs.Units.{priceOf, quote};
+ghost use Rattle.rules.specs.Settings.{targetOf};
+ghost use Rattle.rules.specs.Held.{standingOf};
+ghost use Rattle.rules.specs.Bid.{priceAt, beforeAt};
 ghost use Rattle.rules.specs.Price.{decrementUpTo, nextPrice, nextBefore};
 ghost use Rattle.rules.specs.Round.{opensAt};
-ghost use Rattle.held.specs.Counts.{Counts};
-use rules::Auction;
+ghost use Rattle.rules.specs.Layout.{loaded, stored};
+ghost use Rattle.book.specs.Lent.{Lent};
 use rules::BasisPoints;
 use rules::Price;
+use rules::Quote;
 use rules::Row;
-use rules::Terms;
-
-// A standing above zero as a number, and 0 for any other.
-fn surplus(standing: i32) -> u32
-    ensures { λ r. ⌜ r ≡ aboveZero standing ⌝ }
-{
-    if standing > 0 {
-        return standing as u32;
-    }
-    0
-}
+use rules::Tranches;
 
 // "percentage = 100 x standing / target, rounded down". A product that is not in use has no target.
-fn percentage(over: u32, target: u16) -> u64
-    ensures { λ r. ⌜ r ≡ 100 * over / target ⌝ }
+fn percentage(over: u32, target: Tranches) -> u64
+    ensures { λ r. ⌜ r ≡ 100 * over / target .0 ⌝ }
 {
-    if target == 0 {
+    if target.0 == 0 {
         return 0;
     }
-    100 * over as u64 / target as u64
+    100 * over as u64 / target.0 as u64
 }
 
 fn or_row(row: Row, percent: u64, found: BasisPoints) -> BasisPoints
@@ -43,63 +37,63 @@ fn or_row(row: Row, percent: u64, found: BasisPoints) -> BasisPoints
 }
 
 // "its decrement is that of the last row not above it"
-fn decrement(t: Terms, percent: u64) -> BasisPoints
-    requires { ⌜ t .rows ≤ 8 ⌝ }
-    ensures { λ r. ⌜ r .0 ≡ decrementUpTo t percent (t .rows) ⌝ }
+fn decrement(s: &[u8], percent: u64) -> BasisPoints
+    requires { ⌜ Lent (now s) ⌝ }
+    ensures { λ r. ⌜ r .0 ≡ decrementUpTo (loaded (now (s .entry)) .terms) percent (loaded (now (s .entry)) .terms .rows) ⌝ }
 {
-    let n = t.rows as usize;
+    let n = book::rows(s);
     let mut found = BasisPoints(0);
     let mut i: usize = 0;
     while i < n {
-        let row = t.row[i];
-        found = or_row(row, percent, found);
+        found = or_row(book::row(s, i), percent, found);
         i += 1;
     }
     found
 }
 
 // "Next price of a product above target"; "Other prices stay."
-fn next_price(t: Terms, standing: i32, target: u16, price: u32) -> u32
-    requires { ⌜ t .rows ≤ 8 ⌝ }
-    ensures { λ r. ⌜ r ≡ nextPrice t standing target price ⌝ }
+fn next_price(s: &[u8], standing: i32, target: Tranches, price: Price) -> Price
+    requires { ⌜ Lent (now s) ⌝ }
+    ensures { λ r. ⌜ ((u m : ℕ) → price ≡ priceOf u m → r ≡ priceOf u (nextPrice (loaded (now (s .entry)) .terms) standing (target .0) m)) ⌝ }
 {
-    if search::is_above(standing) {
-        let by = decrement(t, percentage(surplus(standing), target));
-        return Price::of(t.unit, price).fall(by).amount();
+    if standing > 0 {
+        return price.fall(decrement(s, percentage(held::above_zero(standing), target)));
     }
     price
 }
 
 // The price before its latest fall.
-fn next_before(standing: i32, price: u32, before: u32) -> u32
-    ensures { λ r. ⌜ r ≡ nextBefore standing price before ⌝ }
+fn next_before(standing: i32, price: Price, before: Price) -> Price
+    ensures { λ r. ⌜ ((u m n : ℕ) → price ≡ priceOf u m → before ≡ priceOf u n → r ≡ priceOf u (nextBefore standing m n)) ⌝ }
 {
-    if search::is_above(standing) {
+    if standing > 0 {
         return price;
     }
     before
 }
 
 // A round opens at the prices that are worked out from the going prices and the book.
-pub fn opens_at(a: Auction, round: u16) -> Auction
-    requires { ⌜ Counts a × (a .terms .rows ≤ 8) ⌝ }
-    ensures { λ r. ⌜ r ≡ opensAt round a ⌝ }
+pub fn opens_at(s: &mut [u8], round: u16)
+    requires { ⌜ Lent (now s) ⌝ }
+    ensures { λ _. ⌜ now (s .exit) ≡ stored (opensAt round (loaded (now (s .entry)))) ⌝ }
 {
-    let t = a.terms;
-    let mut price = [0u32; 8];
-    let mut before = [0u32; 8];
+    let none = Quote {
+        price: Price::of(0, 0),
+    };
+    let mut price = [none; 8];
+    let mut before = [none; 8];
     let mut p: usize = 0;
     while p < 8 {
-        let item = t.item[p];
-        let standing = held::standing(a, p);
-        price[p] = next_price(t, standing, item.target.0, a.price[p]);
-        before[p] = next_before(standing, a.price[p], a.before[p]);
+        let standing = held::standing(s, p);
+        let x = book::price(s, p);
+        let next = next_price(s, standing, book::target(s, p), x);
+        price[p] = Quote { price: next };
+        let last = next_before(standing, x, book::before(s, p));
+        before[p] = Quote { price: last };
         p += 1;
     }
-    let mut next = a;
-    next.phase = 1;
-    next.round = round;
-    next.price = price;
-    next.before = before;
-    next
+    let _ = storing::as_stored(s);
+    storing::phase(s, 1);
+    storing::round(s, round);
+    storing::prices(s, price, before);
 }

@@ -48,12 +48,12 @@ call-keeps s (inl I) c h = issued-after s I c h
 call-keeps s (inr S) c h = inr (after-stands s S c)
 
 -- a return leaves any state of the right length as first issued
-pub return-keeps : (s : List ℕ) → length s ≡ 3333 → Issued (returnCall s .bytes)
+pub return-keeps : (s : List ℕ) → length s ≡ stateLength → Issued (returnCall s .bytes)
 return-keeps s l =
     let r = return-issued s l in
     record { long = ap length (r .1) ∙ length-replicate {A = ℕ} stateLength 0; zero = r .2 }
 
-long-of : (s : List ℕ) → IssuedOrStanding s → length s ≡ 3333
+long-of : (s : List ℕ) → IssuedOrStanding s → length s ≡ stateLength
 long-of s (inl I) = I .long
 long-of s (inr S) = S .long
 

@@ -5,14 +5,14 @@ use mathlib.Core.Logic.{_⊎_}
 use mathlib.Core.List.{List, [], _∷_}
 use Prim.Native.Nat.{ℕ}
 use lib.ListN.{length}
-use Rattle.rules.specs.Layout.{allZero}
+use Rattle.rules.specs.Layout.{allZero, stateLength}
 use Rattle.rules.specs.Calls.{returnCall}
 use Rattle.rules.specs.OneCall.{StandsIn}
 use Rattle.promises.specs.Runs.{Call, opens, files, counts, calculates, cuts, reports, results, reads, writes, suggests, after}
 
 -- of the right length, and all zero
 pub record Issued (s : List ℕ) : Type 0 where
-  pub long : length s ≡ 3333
+  pub long : length s ≡ stateLength
   pub zero : allZero s ≡ true
 
 abbrev pub IssuedOrStanding : List ℕ → Type 0

@@ -1,15 +1,14 @@
 // Document 01, "Report and result": what one bidder is told, and what is awarded.
 ghost use mathlib.Core.Path.{_≡_};
-ghost use Prim.Native.Nat.{_≤_, _<_, max};
+ghost use Prim.Native.Nat.{ℕ, _<_, max};
 ghost use lib.ListN.{replicate};
 ghost use Rattle.rules.specs.Count.{listOf};
-ghost use Rattle.rules.specs.Units.{quote, tranches};
+ghost use Rattle.rules.specs.Units.{priceOf, quote, tranches};
 ghost use Rattle.rules.specs.Held.{heldIn, recordAt};
 ghost use Rattle.rules.specs.Bid.{recordOf, priceAt};
 ghost use Rattle.rules.specs.Report.{reportOn, reportRefused, priceIf, highestIn, highestUpTo, paidOn, resultOf, resultRefused};
-ghost use Rattle.held.specs.Counts.{Counts};
-ghost use Rattle.reports.specs.Awards.{Awardable};
-use rules::Auction;
+ghost use Rattle.rules.specs.Layout.{loaded};
+ghost use Rattle.book.specs.Lent.{Long, Lent};
 use rules::Award;
 use rules::Awarded;
 use rules::Phase;
@@ -32,44 +31,43 @@ fn no_quotes() -> [Quote; 8]
 // ---- The report
 
 // The bidder's own records.
-fn own_records(a: Auction, b: usize) -> [Record; 8]
-    requires { ⌜ b < 32 ⌝ }
-    ensures { λ r. ⌜ r ≡ listOf (recordOf a b) 8 ⌝ }
+fn own_records(s: &[u8], b: usize) -> [Record; 8]
+    requires { ⌜ Long (now s) × (b < 32) ⌝ }
+    ensures { λ r. ⌜ r ≡ listOf (recordOf (loaded (now (s .entry))) b) 8 ⌝ }
 {
     let mut own = [Record::none(); 8];
     let mut p: usize = 0;
     while p < 8 {
-        let k = b * 8 + p;
-        own[p] = a.records[k];
+        own[p] = book::record(s, b * 8 + p);
         p += 1;
     }
     own
 }
 
-// All going prices, in the auction's unit.
-fn going_prices(a: Auction) -> [Quote; 8]
-    ensures { λ r. ⌜ r ≡ listOf (λ p. quote (a .terms .unit) (priceAt a p)) 8 ⌝ }
+// All going prices.
+fn going_prices(s: &[u8]) -> [Quote; 8]
+    requires { ⌜ Long (now s) ⌝ }
+    ensures { λ r. ⌜ r ≡ listOf (λ p. quote (loaded (now (s .entry)) .terms .unit) (priceAt (loaded (now (s .entry))) p)) 8 ⌝ }
 {
-    let unit = a.terms.unit;
     let mut prices = no_quotes();
     let mut p: usize = 0;
     while p < 8 {
-        let x = Price::of(unit, a.price[p]);
+        let x = book::price(s, p);
         prices[p] = Quote { price: x };
         p += 1;
     }
     prices
 }
 
-pub fn report_on(a: Auction, b: usize) -> Reported
-    requires { ⌜ Counts a × (b < 32) ⌝ }
-    ensures { λ r. ⌜ r ≡ reportOn a b ⌝ }
+pub fn report_on(s: &[u8], b: usize) -> Reported
+    requires { ⌜ Lent (now s) × (b < 32) ⌝ }
+    ensures { λ r. ⌜ r ≡ reportOn (loaded (now (s .entry))) b ⌝ }
 {
-    let free = a.free[b];
-    let phase = Phase::of(a.phase);
-    let range = Range::of(held::excess(a));
-    let records = own_records(a, b);
-    let prices = going_prices(a);
+    let free = book::free(s, b);
+    let phase = Phase::of(book::phase(s));
+    let range = Range::of(held::excess(s));
+    let records = own_records(s, b);
+    let prices = going_prices(s);
     let report = Report::Given { free, phase, range };
     Reported {
         report,
@@ -93,74 +91,74 @@ pub fn refused_report(number: u8) -> Reported
 
 // ---- The result
 
-fn larger(x: u32, y: u32) -> u32
-    ensures { λ r. ⌜ r ≡ max x y ⌝ }
+// The higher of two prices of one unit.
+fn higher(x: Price, y: Price) -> Price
+    ensures { λ r. ⌜ ((u m n : ℕ) → x ≡ priceOf u m → y ≡ priceOf u n → r ≡ priceOf u (max m n)) ⌝ }
 {
-    if x < y {
+    if x.amount() < y.amount() {
         return y;
     }
     x
 }
 
-// The price where there is a tranche at it.
-fn price_if(n: u16, x: u32) -> u32
-    ensures { λ r. ⌜ r ≡ priceIf n x ⌝ }
+// The price where there is a tranche at it, and else 0 of its unit.
+fn price_if(n: Tranches, x: Price) -> Price
+    ensures { λ r. ⌜ ((u m : ℕ) → x ≡ priceOf u m → r ≡ priceOf u (priceIf (n .0) m)) ⌝ }
 {
-    if n > 0 {
+    if n.0 > 0 {
         return x;
     }
-    0
+    Price::of(x.unit(), 0)
 }
 
 // The highest price at which a record holds a tranche.
-fn highest_in(price: u32, before: u32, r: Record) -> u32
-    ensures { λ o. ⌜ o ≡ highestIn price before r ⌝ }
+fn highest_in(price: Price, before: Price, r: Record) -> Price
+    ensures { λ o. ⌜ ((u p q : ℕ) → price ≡ priceOf u p → before ≡ priceOf u q → o ≡ priceOf u (highestIn p q r)) ⌝ }
 {
-    let g = price_if(r.going.0, price);
-    let d = price_if(r.denied.0, before);
-    let w = price_if(r.retained.count.0, r.retained.exit);
-    larger(g, larger(d, w))
+    let g = price_if(r.going, price);
+    let d = price_if(r.denied, before);
+    let exit = Price::of(price.unit(), r.retained.exit);
+    let w = price_if(r.retained.count, exit);
+    higher(g, higher(d, w))
 }
 
-fn highest(a: Auction, p: usize) -> u32
-    requires { ⌜ Counts a × (p < 8) ⌝ }
-    ensures { λ r. ⌜ r ≡ highestUpTo a p (a .terms .bidders) ⌝ }
+fn highest(s: &[u8], p: usize) -> Price
+    requires { ⌜ Lent (now s) × (p < 8) ⌝ }
+    ensures { λ r. ⌜ r ≡ priceOf (loaded (now (s .entry)) .terms .unit) (highestUpTo (loaded (now (s .entry))) p (loaded (now (s .entry)) .terms .bidders)) ⌝ }
 {
-    let n = a.terms.bidders as usize;
-    let price = a.price[p];
-    let before = a.before[p];
-    let mut most: u32 = 0;
+    let n = book::bidders(s);
+    let price = book::price(s, p);
+    let before = book::before(s, p);
+    let mut most = Price::of(book::unit(s), 0);
     let mut b: usize = 0;
     while b < n {
-        let k = b * 8 + p;
-        let r = a.records[k];
-        most = larger(most, highest_in(price, before, r));
+        let r = book::record(s, b * 8 + p);
+        most = higher(most, highest_in(price, before, r));
         b += 1;
     }
     most
 }
 
 // "the highest price of any held tranche, or the going price if none is held"
-fn paid_on(a: Auction, p: usize) -> u32
-    requires { ⌜ Counts a × (p < 8) ⌝ }
-    ensures { λ r. ⌜ r ≡ paidOn a p ⌝ }
+fn paid_on(s: &[u8], p: usize) -> Price
+    requires { ⌜ Lent (now s) × (p < 8) ⌝ }
+    ensures { λ r. ⌜ r ≡ priceOf (loaded (now (s .entry)) .terms .unit) (paidOn (loaded (now (s .entry))) p) ⌝ }
 {
-    let most = highest(a, p);
-    if most == 0 {
-        return a.price[p];
+    let most = highest(s, p);
+    if most.amount() == 0 {
+        return book::price(s, p);
     }
     most
 }
 
-fn paid_prices(a: Auction) -> [Quote; 8]
-    requires { ⌜ Counts a ⌝ }
-    ensures { λ r. ⌜ r ≡ listOf (λ p. quote (a .terms .unit) (paidOn a p)) 8 ⌝ }
+fn paid_prices(s: &[u8]) -> [Quote; 8]
+    requires { ⌜ Lent (now s) ⌝ }
+    ensures { λ r. ⌜ r ≡ listOf (λ p. quote (loaded (now (s .entry)) .terms .unit) (paidOn (loaded (now (s .entry))) p)) 8 ⌝ }
 {
-    let unit = a.terms.unit;
     let mut prices = no_quotes();
     let mut p: usize = 0;
     while p < 8 {
-        let x = Price::of(unit, paid_on(a, p));
+        let x = paid_on(s, p);
         prices[p] = Quote { price: x };
         p += 1;
     }
@@ -168,27 +166,25 @@ fn paid_prices(a: Auction) -> [Quote; 8]
 }
 
 // "g + d + r for each bidder and product"
-fn awards(a: Auction) -> [Tranches; 256]
-    requires { ⌜ Awardable a ⌝ }
-    ensures { λ r. ⌜ r ≡ listOf (λ k. tranches (heldIn (recordAt (a .records) k))) 256 ⌝ }
+fn awards(s: &[u8]) -> [Tranches; 256]
+    requires { ⌜ Long (now s) ⌝ }
+    ensures { λ r. ⌜ r ≡ listOf (λ k. tranches (heldIn (recordAt (loaded (now (s .entry)) .records) k))) 256 ⌝ }
 {
     let mut won = [Tranches(0); 256];
     let mut k: usize = 0;
     while k < 256 {
-        let r = a.records[k];
-        let n = r.held();
-        won[k] = Tranches(n as u16);
+        won[k] = book::held(s, k);
         k += 1;
     }
     won
 }
 
-pub fn result_of(a: Auction) -> Awarded
-    requires { ⌜ Counts a × Awardable a ⌝ }
-    ensures { λ r. ⌜ r ≡ resultOf a ⌝ }
+pub fn result_of(s: &[u8]) -> Awarded
+    requires { ⌜ Lent (now s) ⌝ }
+    ensures { λ r. ⌜ r ≡ resultOf (loaded (now (s .entry))) ⌝ }
 {
-    let tranches = awards(a);
-    let prices = paid_prices(a);
+    let tranches = awards(s);
+    let prices = paid_prices(s);
     Awarded {
         award: Award::Given,
         tranches,

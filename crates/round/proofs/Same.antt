@@ -1,4 +1,4 @@
--- The steps see of the ticks only those of the products. Assumes nothing.
+-- The steps see of the ticks and targets only those of the products. Assumes nothing.
 use mathlib.Core.Path.{_≡_, refl, _∙_, ap, ap₂}
 use mathlib.Core.Bool.{Bool, _&&_, not}
 use mathlib.Core.List.{List}
@@ -16,7 +16,7 @@ use Rattle.rules.specs.Held.{standing, below, above}
 use Rattle.rules.specs.Accept.{changed, column, heldOf, keptOf}
 use Rattle.rules.specs.Keep.{short, keepStep, kept, whileShort, keepLoop}
 use Rattle.rules.specs.Outbid.{deemIf, deemedUpTo, whileOver, outbidStep, over, outbidLoop}
-use Rattle.keep.proofs.Turn.{first-ext}
+use Rattle.search.proofs.Laws.{first-ext}
 
 while-short : (q : Pick) (f g : ℕ → Kept) (done : Kept) → ((p : ℕ) → f p ≡ g p) → whileShort q f done ≡ whileShort q g done
 while-short (At p) f g done h = h p
@@ -32,28 +32,29 @@ module _ (tick other : ℕ → Bool) (same : (p : ℕ) → p < 8 → tick p ≡ 
   deemed-same ps zero = refl
   deemed-same ps (suc k) = ap₂ (λ t ps. changed (deemIf t) ps k) (same (k % 8) (mod-lt k (omega arith))) (deemed-same ps k)
 
-  module _ (m n : ℕ) (few : m ≤ 8) (target : ℕ → ℕ) (draw : ℕ → ℕ) where
-    first-short : (ps : List Place) → firstUpTo (short n target tick ps) m ≡ firstUpTo (short n target other ps) m
+  module _ (m n : ℕ) (few : m ≤ 8) (target goal : ℕ → ℕ) (aims : (p : ℕ) → p < 8 → target p ≡ goal p) (draw : ℕ → ℕ) where
+    first-short : (ps : List Place) → firstUpTo (short n target tick ps) m ≡ firstUpTo (short n goal other ps) m
     first-short ps =
-        first-ext (short n target tick ps) (short n target other ps) m
-        (λ p l. ap (λ t. t && below (standing (column heldOf ps p n) (target p))) (same p (omega arith)))
+        first-ext (short n target tick ps) (short n goal other ps) m
+        (λ p l. ap₂ (λ t x. t && below (standing (column heldOf ps p n) x)) (same p (omega arith)) (aims p (omega arith)))
 
-    pub keep-same : (f : ℕ) (ps : List Place) (c : ℕ) → keepLoop m n target tick draw f ps c ≡ keepLoop m n target other draw f ps c
+    pub keep-same : (f : ℕ) (ps : List Place) (c : ℕ) → keepLoop m n target tick draw f ps c ≡ keepLoop m n goal other draw f ps c
     unfolding keepLoop
     keep-same zero ps c = refl
     keep-same (suc f) ps c =
-        rw (first-short ps) (while-short (firstUpTo (short n target other ps) m) _ _ (kept ps c)
+        rw (first-short ps) (while-short (firstUpTo (short n goal other ps) m) _ _ (kept ps c)
         (λ p. rw (keep-same f (keepStep m n draw ps p) (c + 1))))
 
-    first-over : (ps : List Place) → firstUpTo (over n target tick ps) m ≡ firstUpTo (over n target other ps) m
+    first-over : (ps : List Place) → firstUpTo (over n target tick ps) m ≡ firstUpTo (over n goal other ps) m
     first-over ps =
-        first-ext (over n target tick ps) (over n target other ps) m
-        (λ p l. ap (λ t. not t && (above (standing (column heldOf ps p n) (target p)) && ltb 0 (column keptOf ps p n))) (same p (omega arith)))
+        first-ext (over n target tick ps) (over n goal other ps) m
+        (λ p l. ap₂ (λ t x. not t && (above (standing (column heldOf ps p n) x) && ltb 0 (column keptOf ps p n))) (same p (omega arith))
+        (aims p (omega arith)))
 
-    pub outbid-same : (f : ℕ) (s : Outbid) → outbidLoop m n target tick draw f s ≡ outbidLoop m n target other draw f s
+    pub outbid-same : (f : ℕ) (s : Outbid) → outbidLoop m n target tick draw f s ≡ outbidLoop m n goal other draw f s
     unfolding outbidLoop
     outbid-same zero s = refl
     outbid-same (suc f) s =
         ap (λ q. whileOver q (λ p. outbidLoop m n target tick draw f (outbidStep n draw s p)) s) (first-over (s .places))
-        ∙ while-over (firstUpTo (over n target other (s .places)) m) (λ p. outbidLoop m n target tick draw f (outbidStep n draw s p))
-        (λ p. outbidLoop m n target other draw f (outbidStep n draw s p)) s (λ p. outbid-same f (outbidStep n draw s p))
+        ∙ while-over (firstUpTo (over n goal other (s .places)) m) (λ p. outbidLoop m n target tick draw f (outbidStep n draw s p))
+        (λ p. outbidLoop m n goal other draw f (outbidStep n draw s p)) s (λ p. outbid-same f (outbidStep n draw s p))

@@ -1,108 +1,129 @@
--- Step 5 and the whole, against the definition. Assumes nothing.
-use mathlib.Core.Path.{_≡_, sym, _∙_, ap, ap₂, subst}
-use mathlib.Core.Bool.{Bool, true, false, cond}
+-- The whole, against the definition. Assumes nothing.
+use mathlib.Core.Path.{_≡_, sym, _∙_, ap, ap₂}
+use mathlib.Core.Bool.{true, false, cond}
 use mathlib.Core.List.{List}
 use Prim.Native.Nat.{ℕ, _*_, _≤_}
+use native.Mathlib.Omega.{arith}
 use borrow.Author.Tests.{eq-eqb, ne-eqb}
-use lib.ListN.{replicate}
+use lib.ListN.{length, replicate}
 use Rattle.rules.specs.declared.Tranches.{Tranches}
-use Rattle.rules.specs.declared.Line.{Line}
-use Rattle.rules.specs.declared.Record.{Record}
 use Rattle.rules.specs.declared.Place.{Place}
 use Rattle.rules.specs.declared.Kept.{Kept}
 use Rattle.rules.specs.declared.Outbid.{Outbid}
 use Rattle.rules.specs.declared.Auction.{Auction}
-use Rattle.rules.specs.Count.{listOf}
 use Rattle.rules.specs.Units.{tranches}
-use Rattle.rules.specs.Card.{noLine}
-use Rattle.rules.specs.Answers.{closed, stopped}
 use Rattle.rules.specs.Settings.{targetOf}
+use Rattle.rules.specs.Answers.{closed, stopped}
 use Rattle.rules.specs.Held.{excess, ticked}
-use Rattle.rules.specs.Accept.{placeAt, acceptedAll, every, leftOf, keptOf}
-use Rattle.rules.specs.Keep.{keptAll}
+use Rattle.rules.specs.Accept.{acceptedAll, every, leftOf, keptOf}
+use Rattle.rules.specs.Keep.{kept, keptAll}
 use Rattle.rules.specs.Outbid.{deemedUpTo, outbid, outbidAll}
-use Rattle.rules.specs.Round.{drawn, afterStep2, afterStep4, afterKept, counted, atRest, onward, stops, settled, calculated}
-use Rattle.held.specs.Counts.{Counts}
-use Rattle.search.specs.Room.{isOne}
-use Rattle.round.specs.Ready.{Ticks}
+use Rattle.rules.specs.Round.{drawn, atRest, onward, stops, afterStep2, afterStep4, calculated}
+use Rattle.rules.specs.Layout.{loaded, stored}
+use Rattle.rules.proofs.Bids.{bids-accepted}
+use Rattle.rules.proofs.Storing.{stored-long, loaded-long}
+use Rattle.rules.proofs.Round.{round-rest-loads}
+use Rattle.book.specs.Lent.{Lent}
+use Rattle.held.specs.Ticks.{Ticks}
+use Rattle.storing.specs.Written.{withPhase}
+use Rattle.search.specs.Room.{Drawn, isOne, targetOn}
+use Rattle.round.specs.Ready.{Targets, settledFrom, Ready, Calculates}
+use Rattle.round.specs.declared.Tally.{Tally}
+use Rattle.round.proofs.Bids.{drawn-all}
 use Rattle.round.proofs.Same.{deemed-same, keep-same, outbid-same}
 
--- ---- the states that step 5 makes
+-- ---- step 5, by its two tests
 
-abbrev resting : ℕ → Auction → List Tranches → List Record → Line → Auction
-resting phase a free records none = record {
-  phase = phase;
-  round = a .round;
-  filed = 0;
-  terms = a .terms;
-  price = a .price;
-  before = a .before;
-  free = free;
-  records = records;
-  bids = replicate 256 none;
-}
+module _ (z : Auction) where
+  pub ends : excess z ≡ 0 → z ≡ settledFrom z
+  ends e = sym (ap (λ t. cond t z (cond (stops z) (withPhase z stopped) (onward z))) (eq-eqb _ _ e))
 
-pub rest-is : (phase : ℕ) (a : Auction) (o : Outbid) (records : List Record) (none : Line)
-    → records ≡ listOf (λ k. placeAt (o .places) k .holds) 256 → none ≡ noLine → resting phase a (o .free) records none ≡ atRest phase a o
-rest-is phase a o records none e f = ap₂ (resting phase a (o .free)) e f
+  module _ (h : excess z ≡ 0 → ⊥) where
+    pub stops-here : stops z ≡ true → withPhase z stopped ≡ settledFrom z
+    stops-here s =
+        sym (ap₂ (λ t u. cond t z (cond u (withPhase z stopped) (onward z))) (ne-eqb _ _ h) s)
 
--- ---- step 5
+    pub goes-on : stops z ≡ false → onward z ≡ settledFrom z
+    goes-on s = sym (ap₂ (λ t u. cond t z (cond u (withPhase z stopped) (onward z))) (ne-eqb _ _ h) s)
 
-module _ (a : Auction) (o : Outbid) (phase : ℕ) (rest : Auction) (e : rest ≡ atRest phase a o) where
-  pub rest-counts : Counts a → Counts rest
-  rest-counts C = subst Counts (sym e) (record { products = C .products; bidders = C .bidders })
+-- ---- the steps before it
 
-  pub rest-small : a .terms .rows ≤ 8 → a .round ≤ 4095 → (rest .terms .rows ≤ 8) × (rest .round ≤ 4095)
-  rest-small h k = subst (λ r. (r .terms .rows ≤ 8) × (r .round ≤ 4095)) (sym e) (h, k)
+module _ (a : Auction) (order ticks targets : List ℕ) (T : Ticks ticks a) (G : Targets targets a) (few : a .terms .products ≤ 8) where
+  abbrev m : ℕ
+  m = a .terms .products
 
-module _ (a : Auction) (o : Outbid) (rest : Auction) (e : rest ≡ atRest closed a o) where
-  module _ (x : ℕ) (f : x ≡ excess rest) where
-    pub settled-closed : x ≡ 0 → rest ≡ settled a o
-    settled-closed z =
-        e ∙ sym (ap (λ t. cond t (atRest closed a o) (cond (stops (atRest closed a o)) (atRest stopped a o) (onward (atRest closed a o))))
-        (eq-eqb _ _ (sym (f ∙ ap excess e) ∙ z)))
+  abbrev n : ℕ
+  n = a .terms .bidders
 
-    module _ (z : x ≡ 0 → ⊥) (t : Bool) (g : t ≡ stops rest) where
-      open-still : settled a o ≡ cond (stops (atRest closed a o)) (atRest stopped a o) (onward (atRest closed a o))
-      open-still =
-          ap (λ t. cond t (atRest closed a o) (cond (stops (atRest closed a o)) (atRest stopped a o) (onward (atRest closed a o))))
-          (ne-eqb _ _ (λ h. z (f ∙ ap excess e ∙ h)))
+  pub kept-is : (k : Kept) (ps : List Place) → ps ≡ acceptedAll a → k ≡ keptAll m n (targetOn targets) (isOne ticks) (drawn order) ps
+      → k ≡ afterStep2 a order
+  kept-is k ps e f =
+      f ∙ ap (keptAll m n (targetOn targets) (isOne ticks) (drawn order)) e
+      ∙ keep-same (isOne ticks) (ticked a) T m n few (targetOn targets) (targetOf (a .terms)) G (drawn order)
+      (every leftOf (acceptedAll a) n) (acceptedAll a) 0
 
-      pub settled-stopped : (r : Auction) → t ≡ true → r ≡ atRest stopped a o → r ≡ settled a o
-      settled-stopped r h k =
-          k ∙ sym (open-still ∙ ap (λ t. cond t (atRest stopped a o) (onward (atRest closed a o))) (sym (g ∙ ap stops e) ∙ h))
-
-      pub settled-onward : (r : Auction) → t ≡ false → r ≡ onward rest → r ≡ settled a o
-      settled-onward r h k =
-          k ∙ ap onward e ∙ sym (open-still ∙ ap (λ t. cond t (atRest stopped a o) (onward (atRest closed a o))) (sym (g ∙ ap stops e) ∙ h))
+  pub outbid-is : (k : Kept) (ps : List Place) (o : Outbid) → ps ≡ deemedUpTo (isOne ticks) (k .places) (n * 8)
+      → o ≡ outbidAll m n (targetOn targets) (isOne ticks) (drawn order) ps (replicate 32 (tranches 0)) → k ≡ afterStep2 a order
+      → o ≡ afterStep4 a order (afterStep2 a order .places)
+  outbid-is k ps o e f g =
+      let qs : List Place = deemedUpTo (ticked a) (k .places) (n * 8) in
+      let w : ps ≡ qs = e ∙ deemed-same (isOne ticks) (ticked a) T (k .places) (n * 8) in
+      f ∙ ap (λ ps. outbidAll m n (targetOn targets) (isOne ticks) (drawn order) ps (replicate 32 (tranches 0))) w
+      ∙ outbid-same (isOne ticks) (ticked a) T m n few (targetOn targets) (targetOf (a .terms)) G (drawn order)
+      (every keptOf qs n) (outbid qs (replicate 32 (tranches 0)) 0)
+      ∙ ap (λ k. afterStep4 a order (k .places)) g
 
 -- ---- the whole
 
-module _ (a : Auction) (order ticks : List ℕ) (T : Ticks ticks a) (few : a .terms .products ≤ 8) where
-  kept-is : (k : Kept) (ps : List Place) → ps ≡ acceptedAll a
-      → k ≡ keptAll (a .terms .products) (a .terms .bidders) (targetOf (a .terms)) (isOne ticks) (drawn order) ps → k ≡ afterStep2 a order
-  kept-is k ps e f =
-      f ∙ ap (keptAll (a .terms .products) (a .terms .bidders) (targetOf (a .terms)) (isOne ticks) (drawn order)) e
-      ∙ keep-same (isOne ticks) (ticked a) T (a .terms .products) (a .terms .bidders) few (targetOf (a .terms)) (drawn order)
-      (every leftOf (acceptedAll a) (a .terms .bidders)) (acceptedAll a) 0
+module _ (s order ticks targets : List ℕ) (R : Ready s order) (T : Ticks ticks (loaded s)) (G : Targets targets (loaded s)) (m n : ℕ)
+    (em : m ≡ loaded s .terms .products) (en : n ≡ loaded s .terms .bidders) where
+  abbrev a : Auction
+  a = loaded s
 
-  outbid-is : (k : Kept) (ps : List Place) (o : Outbid) → ps ≡ deemedUpTo (isOne ticks) (k .places) (a .terms .bidders * 8)
-      → o ≡ outbidAll (a .terms .products) (a .terms .bidders) (targetOf (a .terms)) (isOne ticks) (drawn order) ps (replicate 32 (tranches 0))
-      → o ≡ afterStep4 a order (k .places)
-  outbid-is k ps o e f =
-      let qs : List Place = deemedUpTo (ticked a) (k .places) (a .terms .bidders * 8) in
-      let w : ps ≡ qs = e ∙ deemed-same (isOne ticks) (ticked a) T (k .places) (a .terms .bidders * 8) in
-      f ∙ ap (λ ps. outbidAll (a .terms .products) (a .terms .bidders) (targetOf (a .terms)) (isOne ticks) (drawn order) ps (replicate 32 (tranches 0))) w
-      ∙ outbid-same (isOne ticks) (ticked a) T (a .terms .products) (a .terms .bidders) few (targetOf (a .terms)) (drawn order)
-      (every keptOf qs (a .terms .bidders)) (outbid qs (replicate 32 (tranches 0)) 0)
+  pub lent : Lent s
+  lent =
+      let L = R .stands .limits in
+      record { long = R .long; counts = record { products = L .products; bidders = L .bidders; rows = L .rows } }
 
-  pub calculated-is : (ps qs : List Place) (k : Kept) (o : Outbid) (r : Auction) → ps ≡ acceptedAll a
-      → k ≡ keptAll (a .terms .products) (a .terms .bidders) (targetOf (a .terms)) (isOne ticks) (drawn order) ps
-      → qs ≡ deemedUpTo (isOne ticks) (k .places) (a .terms .bidders * 8)
-      → o ≡ outbidAll (a .terms .products) (a .terms .bidders) (targetOf (a .terms)) (isOne ticks) (drawn order) qs (replicate 32 (tranches 0))
-      → r ≡ settled a o → record { auction = r; kept = k .count; outbid = o .count } ≡ calculated a order
-  unfolding calculated
-  calculated-is ps qs k o r e f g h i =
-      ap (λ r. record { auction = r; kept = k .count; outbid = o .count }) i
-      ∙ ap (counted a k) (outbid-is k qs o g h)
-      ∙ ap (afterKept a order) (kept-is k ps e f)
+  pub few : m ≤ 8
+  few = omega (arith, R .stands .limits .products)
+
+  pub drawn-by : Drawn n order
+  drawn-by = rw en (drawn-all (a .terms .bidders) order (R .stands .limits .bidders) (R .draw))
+
+  module _ (p₁ p₂ p₃ p₄ : List Place) (k o : ℕ) (free : List Tranches) (s₁ : List ℕ)
+      (e₁ : p₁ ≡ acceptedAll a)
+      (e₂ : kept p₂ k ≡ keptAll m n (targetOn targets) (isOne ticks) (drawn order) p₁)
+      (e₃ : p₃ ≡ deemedUpTo (isOne ticks) p₂ (n * 8))
+      (e₄ : outbid p₄ free o ≡ outbidAll m n (targetOn targets) (isOne ticks) (drawn order) p₃ (replicate 32 (tranches 0)))
+      (e₅ : s₁ ≡ stored (atRest closed a (outbid p₄ free o))) where
+    step-2 : kept p₂ k ≡ afterStep2 a order
+    step-2 = kept-is a order ticks targets T G (R .stands .limits .products) (kept p₂ k) p₁ e₁ (rw (em, en) at e₂)
+
+    step-4 : outbid p₄ free o ≡ afterStep4 a order (afterStep2 a order .places)
+    step-4 =
+        outbid-is a order ticks targets T G (R .stands .limits .products) (kept p₂ k) p₃ (outbid p₄ free o) (rw en at e₃) (rw (em, en) at e₄) step-2
+
+    -- the book at rest is what the bytes hold
+    pub rests : loaded s₁ ≡ atRest closed a (afterStep4 a order (afterStep2 a order .places))
+    rests =
+        ap loaded (e₅ ∙ ap (λ o. stored (atRest closed a o)) step-4)
+        ∙ round-rest-loads a order (R .stands) (loaded-long s) (R .bidding) (R .draw) (bids-accepted a (R .stands) (R .bidding)) (R .bits)
+
+    pub rest-lent : Lent s₁ × (loaded s₁ .round ≤ 4095)
+    rest-lent =
+        let L = R .stands .limits in (
+          record {
+            long = ap length e₅ ∙ stored-long (atRest closed a (outbid p₄ free o));
+            counts = rw rests (record { products = L .products; bidders = L .bidders; rows = L .rows });
+          },
+          rw rests (R .stands .round),
+        )
+
+    pub calculates : (s₂ : List ℕ) (r : Tally) → r .kept ≡ k → r .outbid ≡ o → s₂ ≡ stored (settledFrom (loaded s₁)) → Calculates s order r s₂
+    unfolding calculated
+    calculates s₂ r f g h = record {
+      kept = f ∙ ap (λ k. k .count) step-2;
+      outbid = g ∙ ap (λ o. o .count) step-4;
+      bytes = h ∙ ap (λ z. stored (settledFrom z)) rests;
+    }

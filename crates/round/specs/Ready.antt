@@ -1,32 +1,48 @@
--- What a round asks of the auction and of the draw. Assumes nothing.
+-- What a round asks of the lent state and of the draw, and what it does. Assumes nothing.
 use mathlib.Core.Path.{_≡_}
-use mathlib.Core.Bool.{true}
+use mathlib.Core.Bool.{true, cond}
 use mathlib.Core.List.{List}
-use Prim.Native.Nat.{ℕ, _≤_, _<_}
-use lib.ListN.{getD}
+use Prim.Native.Nat.{ℕ, _<_}
+use lib.ListN.{length}
+use lib.Dec.{eqb}
 use Rattle.rules.specs.declared.Auction.{Auction}
-use Rattle.rules.specs.Card.{noLine}
-use Rattle.rules.specs.Held.{goingIn, deniedIn, retainedIn, recordAt, ticked}
-use Rattle.rules.specs.Bid.{bidIn, withdrawnIn}
-use Rattle.rules.specs.Round.{drawFits}
-use Rattle.held.specs.Counts.{Counts}
-use Rattle.search.specs.Room.{isOne}
+use Rattle.rules.specs.Answers.{stopped}
+use Rattle.rules.specs.Settings.{targetOf}
+use Rattle.rules.specs.Held.{excess}
+use Rattle.rules.specs.Standing.{isOpen}
+use Rattle.rules.specs.Stands.{Stands}
+use Rattle.rules.specs.Round.{drawFits, onward, stops, calculated}
+use Rattle.rules.specs.Layout.{loaded, stored}
+use Rattle.book.specs.Lent.{Long}
+use Rattle.held.specs.Ticks.{Ticks}
+use Rattle.search.specs.Room.{targetOn}
+use Rattle.storing.specs.Written.{withPhase}
+use Rattle.round.specs.declared.Tally.{Tally}
 
--- no sum of a place's counts can pass its 16 bits
-pub record Small (a : Auction) : Type 0 where
-  pub going : (k : ℕ) → k < 256 → goingIn (recordAt (a .records) k) ≤ 255
-  pub denied : (k : ℕ) → k < 256 → deniedIn (recordAt (a .records) k) ≤ 255
-  pub retained : (k : ℕ) → k < 256 → retainedIn (recordAt (a .records) k) ≤ 255
-  pub bid : (k : ℕ) → k < 256 → bidIn (getD (a .bids) k noLine) ≤ 255
-  pub withdrawn : (k : ℕ) → k < 256 → withdrawnIn (getD (a .bids) k noLine) ≤ 255
+-- a number for each product is its target
+abbrev pub Targets : List ℕ → Auction → Type 0
+Targets targets a = (p : ℕ) → p < 8 → targetOn targets p ≡ targetOf (a .terms) p
 
-pub record Ready (a : Auction) (order : List ℕ) : Type 0 where
-  pub counts : Counts a
-  pub rows : a .terms .rows ≤ 8
-  pub round : a .round ≤ 4095
-  pub draw : drawFits (a .terms .bidders) order ≡ true
-  pub small : Small a
+-- the state whose bids are accepted, its ticks, and the table for them
+pub record Accepting (s marks : List ℕ) (ps : List (List ℕ)) : Type 0 where
+  pub long : Long s
+  pub ticks : Ticks marks (loaded s)
+  pub places : length ps ≡ 256
 
--- a byte for each product says whether it ticked
-abbrev pub Ticks : List ℕ → Auction → Type 0
-Ticks ticks a = (p : ℕ) → p < 8 → isOne ticks p ≡ ticked a p
+-- step 5, of the book at rest
+abbrev pub settledFrom : Auction → Auction
+settledFrom z = cond (eqb (excess z) 0) z (cond (stops z) (withPhase z stopped) (onward z))
+
+-- a standing state with bids open, and a draw order of its bidders
+pub record Ready (s order : List ℕ) : Type 0 where
+  pub long : Long s
+  pub stands : Stands (loaded s)
+  pub bits : loaded s .filed < 4294967296
+  pub bidding : isOpen (loaded s) ≡ true
+  pub draw : drawFits (loaded s .terms .bidders) order ≡ true
+
+-- z are the bytes after
+pub record Calculates (s draw : List ℕ) (r : Tally) (z : List ℕ) : Type 0 where
+  pub kept : r .kept ≡ calculated (loaded s) draw .kept
+  pub outbid : r .outbid ≡ calculated (loaded s) draw .outbid
+  pub bytes : z ≡ stored (calculated (loaded s) draw .auction)

@@ -1,58 +1,32 @@
-// "Calculating": a whole round, and its steps 1 and 5.
+// "Calculating": a whole round, and its steps 1 and 5. The round works on one table of places beside the lent bytes, and writes its
+// sections where they stand.
 ghost use mathlib.Core.Path.{_≡_};
 ghost use mathlib.Core.Bool.{cond};
-ghost use Prim.Native.Nat.{_/_, _%_, _^_, _≤_, _<_};
-ghost use lib.Dec.{eqb};
-ghost use Rattle.rules.specs.Count.{listOf};
+ghost use Prim.Native.Nat.{_≤_};
+ghost use Rattle.rules.specs.Units.{amountOf};
+ghost use Rattle.rules.specs.Answers.{closed};
 ghost use Rattle.rules.specs.Bid.{defaultLine};
-ghost use Rattle.rules.specs.Accept.{nowhere, placeAt, accepted, acceptedAll};
-ghost use Rattle.rules.specs.Round.{atRest, onward, settled, calculated};
-ghost use Rattle.held.specs.Counts.{Counts};
-ghost use Rattle.round.specs.Ready.{Ready, Ticks};
-use rules::Auction;
-use rules::Calculated;
+ghost use Rattle.rules.specs.Accept.{accepted, acceptedAll};
+ghost use Rattle.rules.specs.Outbid.{outbid};
+ghost use Rattle.rules.specs.Round.{atRest};
+ghost use Rattle.rules.specs.Layout.{loaded, stored};
+ghost use Rattle.book.specs.Lent.{Long, Lent};
+ghost use Rattle.held.specs.Ticks.{Ticks};
+ghost use Rattle.table.specs.Rows.{placesIn};
+ghost use Rattle.round.specs.Ready.{Targets, Accepting, settledFrom, Ready, Calculates};
 use rules::Line;
 use rules::Lot;
-use rules::Outbid;
 use rules::Place;
+use rules::Price;
 use rules::Record;
 use rules::Tranches;
+use table::WIDTH;
 
 // ---- Step 1: "Take all bids as accepted."
 
-fn one_if(tick: bool) -> u8
-    ensures { λ r. ⌜ eqb r 1 ≡ tick ⌝ }
-{
-    if tick {
-        return 1;
-    }
-    0
-}
-
-// The products that ticked, before anything is changed.
-fn ticks_of(a: Auction) -> [u8; 8]
-    requires { ⌜ Counts a ⌝ }
-    ensures { λ r. ⌜ Ticks r a ⌝ }
-{
-    let mut ticks = [0u8; 8];
-    let mut p: usize = 0;
-    while p < 8 {
-        ticks[p] = one_if(held::ticked(a, p));
-        p += 1;
-    }
-    ticks
-}
-
-fn filed(marks: u32, b: usize) -> bool
-    requires { ⌜ b < 32 ⌝ }
-    ensures { λ r. ⌜ r ≡ eqb (marks / 2 ^ b % 2) 1 ⌝ }
-{
-    (marks >> b) & 1 == 1
-}
-
 // The card's line, or the default.
-fn bid_of(filed: bool, l: Line, tick: bool, before: u32, r: Record) -> Line
-    ensures { λ x. ⌜ x ≡ cond filed l (defaultLine tick before r) ⌝ }
+fn bid_of(filed: bool, l: Line, tick: bool, before: Price, r: Record) -> Line
+    ensures { λ x. ⌜ x ≡ cond filed l (defaultLine tick (amountOf before) r) ⌝ }
 {
     if filed {
         return l;
@@ -86,129 +60,100 @@ fn accept(r: Record, l: Line) -> Place
     }
 }
 
-fn nowhere() -> Place
-    ensures { λ r. ⌜ r ≡ nowhere ⌝ }
+fn accept_all(s: &[u8], ticks: &[u8; 8], ps: &mut [[u32; WIDTH]; 256])
+    requires { ⌜ Accepting (now s) (now ticks) (now ps) ⌝ }
+    ensures { λ _. ⌜ placesIn (now (ps .exit)) ≡ acceptedAll (loaded (now (s .entry))) ⌝ }
 {
-    Place {
-        holds: Record {
-            going: Tranches(0),
-            denied: Tranches(0),
-            retained: Lot {
-                count: Tranches(0),
-                exit: 0,
-            },
-        },
-        leaving: Lot {
-            count: Tranches(0),
-            exit: 0,
-        },
-        moving: Tranches(0),
-        rise: Tranches(0),
-        priority: 0,
+    let mut k: usize = 0;
+    while k < 256 {
+        let r = book::record(s, k);
+        let l = book::line(s, k);
+        let bid = bid_of(
+            book::has_filed(s, k / 8),
+            l,
+            ticks[k % 8] == 1,
+            book::before(s, k % 8),
+            r,
+        );
+        table::put(ps, k, accept(r, bid));
+        k += 1;
     }
 }
 
-pub fn accept_all(a: Auction, ticks: [u8; 8]) -> [Place; 256]
-    requires { ⌜ Ticks ticks a ⌝ }
-    ensures { λ r. ⌜ r ≡ acceptedAll a ⌝ }
+// ---- The targets, as the steps are lent them
+
+fn targets_of(s: &[u8]) -> [u16; 8]
+    requires { ⌜ Long (now s) ⌝ }
+    ensures { λ r. ⌜ Targets r (loaded (now (s .entry))) ⌝ }
 {
-    let none = nowhere();
-    let mut all = [none; 256];
-    let mut k: usize = 0;
-    while k < 256 {
-        let b = k / 8;
-        let p = k % 8;
-        let r = a.records[k];
-        let l = a.bids[k];
-        let bid = bid_of(filed(a.filed, b), l, ticks[p] == 1, a.before[p], r);
-        all[k] = accept(r, bid);
-        k += 1;
+    let mut all = [0u16; 8];
+    let mut p: usize = 0;
+    while p < 8 {
+        all[p] = book::target(s, p).0;
+        p += 1;
     }
     all
 }
 
 // ---- Step 5
 
-fn records_of(places: [Place; 256]) -> [Record; 256]
-    ensures { λ r. ⌜ r ≡ listOf (λ k. placeAt places k .holds) 256 ⌝ }
-{
-    let none = Record::none();
-    let mut all = [none; 256];
-    let mut k: usize = 0;
-    while k < 256 {
-        let l = places[k];
-        let r = l.holds;
-        all[k] = r;
-        k += 1;
-    }
-    all
-}
-
 // The book after step 4, at the same round and prices, with no cards.
-fn at_rest(phase: u8, a: Auction, o: Outbid) -> Auction
-    ensures { λ r. ⌜ r ≡ atRest phase a o ⌝ }
+fn rest(s: &mut [u8], ps: &[[u32; WIDTH]; 256], free: [Tranches; 32], count: u32)
+    requires { ⌜ Long (now s) ⌝ }
+    ensures { λ _. ⌜ now (s .exit) ≡ stored (atRest closed (loaded (now (s .entry))) (outbid (placesIn (now (ps .entry))) free count)) ⌝ }
 {
-    let places = o.places;
-    let records = records_of(places);
-    let none = Line::none();
-    let terms = a.terms;
-    let price = a.price;
-    let before = a.before;
-    let free = o.free;
-    Auction {
-        phase,
-        round: a.round,
-        filed: 0,
-        terms,
-        price,
-        before,
-        free,
-        records,
-        bids: [none; 256],
-    }
-}
-
-// "prices fall and the next round opens"
-fn onward(a: Auction) -> Auction
-    requires { ⌜ Counts a × ((a .terms .rows ≤ 8) × (a .round ≤ 4095)) ⌝ }
-    ensures { λ r. ⌜ r ≡ onward a ⌝ }
-{
-    prices::opens_at(a, a.round + 1)
+    let _ = storing::as_stored(s);
+    storing::phase(s, 2);
+    storing::filed(s, 0);
+    storing::free(s, free);
+    storing::records(s, ps);
+    storing::no_lines(s);
 }
 
 // "If it is 0 the auction is closed. Otherwise, .. it is stopped. Otherwise prices fall and the next round opens."
-fn settle(a: Auction, o: Outbid) -> Auction
-    requires { ⌜ Counts a × ((a .terms .rows ≤ 8) × (a .round ≤ 4095)) ⌝ }
-    ensures { λ r. ⌜ r ≡ settled a o ⌝ }
+fn settle(s: &mut [u8])
+    requires { ⌜ Lent (now s) × (loaded (now s) .round ≤ 4095) ⌝ }
+    ensures { λ _. ⌜ now (s .exit) ≡ stored (settledFrom (loaded (now (s .entry)))) ⌝ }
 {
-    let rest = at_rest(2, a, o);
-    let excess = held::excess(rest);
-    let stops = held::stops(rest);
+    let _ = storing::as_stored(s);
+    let excess = held::excess(s);
     if excess == 0 {
-        return rest;
+        return;
     }
-    if stops {
-        return at_rest(3, a, o);
+    if held::stops(s) {
+        storing::phase(s, 3);
+        return;
     }
-    onward(rest)
+    let next = book::round(s) + 1;
+    prices::opens_at(s, next);
 }
 
 // ---- The whole
 
-pub fn calculate(a: Auction, draw: &[u8]) -> Calculated
-    requires { ⌜ Ready a (now draw) ⌝ }
-    ensures { λ r. ⌜ r ≡ calculated a (now (draw .entry)) ⌝ }
+// "The calculation answers the count of tranches kept in step 2 and outbid in step 4."
+pub struct Tally {
+    pub kept: u32,
+    pub outbid: u32,
+}
+
+pub fn calculate(s: &mut [u8], draw: &[u8]) -> Tally
+    requires { ⌜ Ready (now s) (now draw) ⌝ }
+    ensures { λ r. ⌜ Calculates (now (s .entry)) (now (draw .entry)) r (now (s .exit)) ⌝ }
 {
-    let terms = a.terms;
-    let n = terms.bidders as usize;
-    let ticks = ticks_of(a);
-    let k = keep::keep_all(accept_all(a, ticks), terms, ticks, draw);
-    let kept = k.places;
-    let o = outbid::outbid_all(outbid::deem_all(kept, ticks, n), terms, ticks, draw);
-    let auction = settle(a, o);
-    Calculated {
-        auction,
-        kept: k.count,
+    let products = book::products(s);
+    let bidders = book::bidders(s);
+    let targets = targets_of(s);
+    let ticks = held::ticks(s);
+    let mut ps = [[0u32; WIDTH]; 256];
+    accept_all(s, &ticks, &mut ps);
+    let kept = keep::keep_all(&mut ps, &targets, &ticks, draw, products, bidders);
+    outbid::deem_all(&mut ps, &ticks, bidders);
+    let o = outbid::outbid_all(&mut ps, &targets, &ticks, draw, products, bidders);
+    let free = o.free;
+    rest(s, &ps, free, o.count);
+    settle(s);
+    Tally {
+        kept,
         outbid: o.count,
     }
 }

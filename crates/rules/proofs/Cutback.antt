@@ -30,6 +30,9 @@ use Rattle.rules.proofs.Signed.{above-zero}
 use Rattle.rules.proofs.Tests.{told, shown}
 use Rattle.rules.proofs.Standing.{limits-take, second-none, later-excess, later-open}
 use Rattle.rules.proofs.Prices.{Priced, nextPrices, nextBefores, next, next-none}
+use Rattle.rules.specs.Layout.{stored, loaded}
+use Rattle.rules.proofs.Storing.{Fits, loads}
+use Rattle.rules.proofs.Fitting.{fits}
 
 -- ---- the revised settings, whatever the numbers
 
@@ -370,6 +373,55 @@ module _ (a : Auction) (targets caps : List Tranches) where
           records = list-long (λ k. setTo (recordAt (a .records) k) (givenFor caps (k % 8))) 256;
           bids = K .bids;
         }
+
+    -- the reduced book is loaded as it is stored, whatever comes after it
+    pub reduced-loads : Long a → a .filed < 4294967296 → loaded (stored (reduced a targets caps)) ≡ reduced a targets caps
+    unfolding reduced revised
+    reduced-loads K h =
+        loads z long (cut-each (λ y. Fits y → Fits z) (λ e. over _ _ _) (λ e. over _ _ _)
+        (fits (cutBack a targets caps) cut-stands (cut-each (λ y. y .filed < 4294967296) (λ e. h) (λ e. h))))
+      where
+        long : Long z
+        long = record {
+          item = list-long (λ p. item (givenFor targets p) (givenFor caps p) (startOf (a .terms) p)) 8;
+          eligibility = K .eligibility;
+          row = K .row;
+          price = list-long (startOf (a .terms)) 8;
+          before = list-long (startOf (a .terms)) 8;
+          free = list-long _ 32;
+          records = list-long (λ k. setTo (recordAt (a .records) k) (givenFor caps (k % 8))) 256;
+          bids = K .bids;
+        }
+
+        over : (ph : ℕ) (pr be : List ℕ) → Fits (with ph pr be) → Fits z
+        over ph pr be F =
+            let G = fits a S h in record {
+              phase = omega arith;
+              unit = F .unit;
+              products = F .products;
+              bidders = F .bidders;
+              rows = F .rows;
+              round = F .round;
+              statewide = F .statewide;
+              filed = F .filed;
+              target = F .target;
+              cap = F .cap;
+              start = F .start;
+              price = λ p l. omega (arith, price-is p l, G .start p l);
+              before = λ p l. omega (arith, before-is p l, G .start p l);
+              initial = F .initial;
+              free = F .free;
+              percent = F .percent;
+              decrement = F .decrement;
+              going = F .going;
+              denied = F .denied;
+              retained = F .retained;
+              exit = F .exit;
+              bid = F .bid;
+              withdrawn = F .withdrawn;
+              leaving = F .leaving;
+              priority = F .priority;
+            }
 
     -- ---- what it changes
 

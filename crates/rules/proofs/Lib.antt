@@ -2,6 +2,7 @@ pub mod Sums
 pub mod Lists
 pub mod Fill
 pub mod Tests
+pub mod Units
 pub mod All
 pub mod Signed
 pub mod Standing

@@ -63,7 +63,7 @@ stored-stands a S e =
 
 -- ---- the number of a call lent a state
 
-zero-by : (s : List ℕ) → length s ≡ 3333 → (t : Bool) → allZero s ≡ t → Stands (loaded s) → t ≡ false
+zero-by : (s : List ℕ) → length s ≡ stateLength → (t : Bool) → allZero s ≡ t → Stands (loaded s) → t ≡ false
 unfolding loaded
 zero-by s l true e S =
     let x : loaded s .phase ≡ 0 = eqb-true (getD s 0 0) 0 (all-take (λ i. eqb (getD s i 0) 0) (length s) e 0 (omega arith)) in
@@ -76,11 +76,11 @@ not-issued s S = zero-by s (S .long) (allZero s) refl (stood s S)
 
 -- of a standing state a call says what the auction says
 pub of-standing : (s : List ℕ) → StandsIn s → (n : ℕ) (says : Auction → ℕ) → ofState s n says ≡ says (loaded s)
-of-standing s S n says = rw (eq-eqb (length s) 3333 (S .long), not-issued s S, S .standing)
+of-standing s S n says = rw (eq-eqb (length s) stateLength (S .long), not-issued s S, S .standing)
 
 -- ---- issued
 
-module _ (s : List ℕ) (l : length s ≡ 3333) (z : allZero s ≡ true) where
+module _ (s : List ℕ) (l : length s ≡ stateLength) (z : allZero s ≡ true) where
   issued-by : (t : Bool) → stands (loaded s) ≡ t → t ≡ false
   issued-by true e = clash z (zero-by s l (allZero s) refl (stands-take (loaded s) e))
   issued-by false e = refl
@@ -90,27 +90,27 @@ module _ (s : List ℕ) (l : length s ≡ 3333) (z : allZero s ≡ true) where
       × ((draw : List ℕ) → calculateNumber s draw ≡ 3) × ((targets caps : List Tranches) → cutbackNumber s targets caps ≡ 3)
       × ((b : ℕ) → reportNumber s b ≡ 3) × (resultNumber s ≡ 16)
   issued-not-standing =
-      let e = eq-eqb (length s) 3333 l in
+      let e = eq-eqb (length s) stateLength l in
       (issued-by (stands (loaded s)) refl, λ c. rw (e, z), rw (e, z), λ draw. rw (e, z), λ targets caps. rw (e, z), λ b. rw (e, z), rw (e, z))
 
 -- ---- astray
 
 -- a state of the wrong length is answered 1 by every call
-pub wrong-length : (s : List ℕ) → (length s ≡ 3333 → ⊥) → ((x : Settings) → openNumber s x ≡ 1) × ((c : List ℕ) → fileNumber s c ≡ 1)
+pub wrong-length : (s : List ℕ) → (length s ≡ stateLength → ⊥) → ((x : Settings) → openNumber s x ≡ 1) × ((c : List ℕ) → fileNumber s c ≡ 1)
     × (countNumber s ≡ 1) × ((draw : List ℕ) → calculateNumber s draw ≡ 1)
     × ((targets caps : List Tranches) → cutbackNumber s targets caps ≡ 1) × ((b : ℕ) → reportNumber s b ≡ 1) × (resultNumber s ≡ 1)
     × (returnNumber s ≡ 1)
 wrong-length s l =
-    let e = ne-eqb (length s) 3333 l in
+    let e = ne-eqb (length s) stateLength l in
     (λ x. rw e, λ c. rw e, rw e, λ draw. rw e, λ targets caps. rw e, λ b. rw e, rw e, rw e)
 
 -- "state neither issued nor standing": 2, to an opening 17, and to a return nothing
-pub neither : (s : List ℕ) → length s ≡ 3333 → allZero s ≡ false → stands (loaded s) ≡ false
+pub neither : (s : List ℕ) → length s ≡ stateLength → allZero s ≡ false → stands (loaded s) ≡ false
     → ((x : Settings) → openNumber s x ≡ 17) × ((c : List ℕ) → fileNumber s c ≡ 2) × (countNumber s ≡ 2)
     × ((draw : List ℕ) → calculateNumber s draw ≡ 2) × ((targets caps : List Tranches) → cutbackNumber s targets caps ≡ 2)
     × ((b : ℕ) → reportNumber s b ≡ 2) × (resultNumber s ≡ 2) × (returnNumber s ≡ 0)
 neither s l z n =
-    let e = eq-eqb (length s) 3333 l in
+    let e = eq-eqb (length s) stateLength l in
     (λ x. rw (e, z), λ c. rw (e, z, n), rw (e, z, n), λ draw. rw (e, z, n), λ targets caps. rw (e, z, n), λ b. rw (e, z, n), rw (e, z, n), rw e)
 
 -- ---- refused
@@ -164,16 +164,16 @@ returned : (n : ℕ) (s z : List ℕ) → n ≡ 0 → (answerOf (unlessRefused n
 returned n s z e = (rw e, rw e)
 
 -- "A return accepts any state of the right length and leaves it all zero, as first issued."
-pub return-issued : (s : List ℕ) → length s ≡ 3333
+pub return-issued : (s : List ℕ) → length s ≡ stateLength
     → (answerOf (returnCall s .answer) ≡ said 0 []) × (returnCall s .bytes ≡ replicate stateLength 0) × (allZero (returnCall s .bytes) ≡ true)
 unfolding returnCall
 return-issued s l =
-    let r = returned (returnNumber s) s (replicate stateLength 0) (rw (eq-eqb (length s) 3333 l)) in
+    let r = returned (returnNumber s) s (replicate stateLength 0) (rw (eq-eqb (length s) stateLength l)) in
     (r .0, r .1, subst (λ b. allZero b ≡ true) (sym (r .1)) (zeros stateLength))
 
 -- the owner's case: nothing of one hirer's auction reaches the next, whatever the state that came back, for an opening of it gives the
 -- answer and the bytes that it gives of a new box
-pub return-open : (s : List ℕ) (x : Settings) → length s ≡ 3333 → openCall (returnCall s .bytes) x ≡ openCall (replicate stateLength 0) x
+pub return-open : (s : List ℕ) (x : Settings) → length s ≡ stateLength → openCall (returnCall s .bytes) x ≡ openCall (replicate stateLength 0) x
 return-open s x l = ap (λ b. openCall b x) (return-issued s l .1)
 
 -- ---- open
@@ -201,7 +201,7 @@ module _ (s : List ℕ) (x : Settings) (new : openNumber s x ≡ 0) (e : length 
 pub open-standing : (s : List ℕ) (x : Settings) → StandsIn s → (answerOf (openCall s x .answer) ≡ said 17 []) × (openCall s x .bytes ≡ s)
 unfolding openCall
 open-standing s x S =
-    let n : openNumber s x ≡ 17 = rw (eq-eqb (length s) 3333 (S .long), not-issued s S) in
+    let n : openNumber s x ≡ 17 = rw (eq-eqb (length s) stateLength (S .long), not-issued s S) in
     (rw n, rw n)
 
 -- ---- file

@@ -16,7 +16,8 @@ use Rattle.rules.specs.Held.{goingIn, deniedIn, keptIn, held, ticked, el
 use Rattle.rules.specs.Bid.{bidIn, recordOf, bidOn}
 use Rattle.rules.specs.Accept.{placeAt, acceptedAll, keptOf, riseOf, deem, column}
 use Rattle.rules.specs.Outbid.{deemIf, deemedUpTo}
-use Rattle.rules.specs.Round.{drawFits, afterStep2, afterStep4, settled, calculated}
+use Rattle.rules.specs.Round.{drawFits, atRest, afterStep2, afterStep4, settled, calculated}
+use Rattle.rules.specs.Layout.{stored, loaded}
 use Rattle.rules.specs.Standing.{keptOn, isOpen}
 use Rattle.rules.specs.Counted.{keptWhereTicked, deemedAt, CountsOutbid}
 use Rattle.rules.proofs.Sums.{sum-ext, sum-six, sum-zero}
@@ -26,7 +27,7 @@ use Rattle.rules.proofs.Outbidding.{deemed-exact}
 use Rattle.rules.proofs.Made.{AllAccepted, made-none}
 use Rattle.rules.proofs.Booked.{Booked, kept-end, out-end, trail, unticked, kept-ticked, booked}
 use Rattle.rules.specs.OneCall.{PriceAfter}
-use Rattle.rules.proofs.Settled.{Closes, settled-stands, settled-long, settled-prices, settled-closes, settled-terms, settled-held, settled-kept, settled-record, settled-eligibility}
+use Rattle.rules.proofs.Settled.{Closes, settled-stands, settled-long, settled-prices, settled-closes, settled-terms, settled-held, settled-kept, settled-record, settled-eligibility, rest-loads}
 
 module _ (a : Auction) (draw : List ℕ) (S : Stands a) (L : Long a) (op : isOpen a ≡ true)
     (D : drawFits (a .terms .bidders) draw ≡ true) (A : AllAccepted a) where
@@ -47,6 +48,11 @@ module _ (a : Auction) (draw : List ℕ) (S : Stands a) (L : Long a) (op : isOpe
   pub round-long : Long (calculated a draw .auction)
   unfolding calculated
   round-long = settled-long a _ S B L
+
+  -- the book before step 5 is loaded as it is stored
+  pub round-rest-loads : a .filed < 4294967296
+      → let o = afterStep4 a draw (afterStep2 a draw .places) in loaded (stored (atRest closed a o)) ≡ atRest closed a o
+  round-rest-loads h = rest-loads a _ S B L h
 
   -- the filled part of no product, the lesser of held and target, falls
   pub round-filled : (p x : ℕ) → p < a .terms .products → x ≤ targetOf (a .terms) p

@@ -30,6 +30,9 @@ use Rattle.rules.proofs.Made.{NoRecord}
 use Rattle.rules.proofs.Booked.{Booked}
 use Rattle.rules.specs.OneCall.{PriceAfter}
 use Rattle.rules.proofs.Prices.{cond-false, Priced, nextPrices, nextBefores, next, next-none}
+use Rattle.rules.specs.Layout.{stored, loaded}
+use Rattle.rules.proofs.Storing.{Fits, loads}
+use Rattle.rules.proofs.Fitting.{fits}
 
 -- where a round closes: no award above a target, the target where it was filled, and for each bidder no less than it bid
 pub record Closes (a z : Auction) : Type 0 where
@@ -246,6 +249,53 @@ module _ (a : Auction) (o : Outbid) where
           records = list-long (λ k. placeAt (o .places) k .holds) 256;
           bids = length-replicate 256 noLine;
         }
+
+    -- the book at rest is loaded as it is stored, whatever comes after it
+    pub rest-loads : Long a → a .filed < 4294967296 → loaded (stored rest) ≡ rest
+    rest-loads L h = loads rest long (settled-each (λ y. Fits y → Fits rest) (λ e. over _ _ _ _) (λ g t. over _ _ _ _) (λ g e. over _ _ _ _) (
+        fits (settled a o) settled-stands (settled-each (λ y. y .filed < 4294967296) (λ e. omega arith) (λ g t. omega arith) (λ g e. omega arith))))
+      where
+        long : Long rest
+        long = record {
+          item = L .item;
+          eligibility = L .eligibility;
+          row = L .row;
+          price = L .price;
+          before = L .before;
+          free = B .long-free;
+          records = list-long (λ k. placeAt (o .places) k .holds) 256;
+          bids = length-replicate 256 noLine;
+        }
+
+        over : (ph rd : ℕ) (pr be : List ℕ) → Fits (with ph rd pr be) → Fits rest
+        over ph rd pr be F =
+            let G = fits a S h in record {
+              phase = omega arith;
+              unit = F .unit;
+              products = F .products;
+              bidders = F .bidders;
+              rows = F .rows;
+              round = G .round;
+              statewide = F .statewide;
+              filed = omega arith;
+              target = F .target;
+              cap = F .cap;
+              start = F .start;
+              price = G .price;
+              before = G .before;
+              initial = F .initial;
+              free = F .free;
+              percent = F .percent;
+              decrement = F .decrement;
+              going = F .going;
+              denied = F .denied;
+              retained = F .retained;
+              exit = F .exit;
+              bid = F .bid;
+              withdrawn = F .withdrawn;
+              leaving = F .leaving;
+              priority = F .priority;
+            }
 
     -- the prices after
     pub settled-prices : (p : ℕ) → p < a .terms .products → PriceAfter a (settled a o) p

@@ -11,7 +11,7 @@ use lib.Seq.{getD-append-add}
 use lib.Pow.{shr-shr}
 use lib.Dec.{eqb, ltb}
 use Rattle.rules.specs.declared.Auction.{Auction}
-use Rattle.rules.specs.Layout.{bytesUpTo, headBytes, productBytes, bidderBytes, rowBytes, recordBytes, lineBytes, stored, read1, read2, read3, read4, recordFrom, lineFrom, termsFrom, loaded}
+use Rattle.rules.specs.Layout.{bytesUpTo, headBytes, productBytes, bidderBytes, rowBytes, recordBytes, lineBytes, stored, read1, read2, read3, read4, recordFrom, lineFrom, termsFrom, loaded, productWidth, bidderWidth, rowWidth, recordWidth, lineWidth, productsFrom, biddersFrom, rowsFrom, recordsFrom, bidsFrom, stateLength, headWidth}
 use Rattle.rules.specs.Card.{noLine}
 use Rattle.rules.specs.Settings.{item, noItem, row, noRow, targetOf, capOf, startOf, initialOf, percentOf, decrementOf}
 use Rattle.rules.specs.Held.{nothing, goingIn, deniedIn, retainedIn, exitIn, recordAt, freeOf}
@@ -109,69 +109,69 @@ module _ (a : Auction) where
   abbrev toRecords : List ℕ
   toRecords = toRows ++ bytesUpTo (λ k. recordBytes (recordAt (a .records) k)) 256
 
-  products-long : length toProducts ≡ 101
-  products-long = behind-long (productBytes a) 11 (λ k. refl) (headBytes a) 13 8 refl
+  products-long : length toProducts ≡ biddersFrom
+  products-long = behind-long (productBytes a) productWidth (λ k. refl) (headBytes a) headWidth 8 refl
 
-  bidders-long : length toBidders ≡ 229
-  bidders-long = behind-long (bidderBytes a) 4 (λ k. refl) toProducts 101 32 products-long
+  bidders-long : length toBidders ≡ rowsFrom
+  bidders-long = behind-long (bidderBytes a) bidderWidth (λ k. refl) toProducts biddersFrom 32 products-long
 
-  rows-long : length toRows ≡ 261
-  rows-long = behind-long (rowBytes a) 4 (λ k. refl) toBidders 229 8 bidders-long
+  rows-long : length toRows ≡ recordsFrom
+  rows-long = behind-long (rowBytes a) rowWidth (λ k. refl) toBidders rowsFrom 8 bidders-long
 
-  records-long : length toRecords ≡ 1797
-  records-long = behind-long (λ k. recordBytes (recordAt (a .records) k)) 6 (λ k. refl) toRows 261 256 rows-long
+  records-long : length toRecords ≡ bidsFrom
+  records-long = behind-long (λ k. recordBytes (recordAt (a .records) k)) recordWidth (λ k. refl) toRows recordsFrom 256 rows-long
 
   -- the state's length
-  pub stored-long : length (stored a) ≡ 3333
+  pub stored-long : length (stored a) ≡ stateLength
   unfolding stored
-  stored-long = behind-long (λ k. lineBytes (getD (a .bids) k noLine)) 6 (λ k. refl) toRecords 1797 256 records-long
+  stored-long = behind-long (λ k. lineBytes (getD (a .bids) k noLine)) lineWidth (λ k. refl) toRecords bidsFrom 256 records-long
 
-  in-records : (i : ℕ) → i < 1797 → getD (stored a) i 0 ≡ getD toRecords i 0
+  in-records : (i : ℕ) → i < bidsFrom → getD (stored a) i 0 ≡ getD toRecords i 0
   unfolding stored
-  in-records i h = under toRecords (bytesUpTo (λ k. lineBytes (getD (a .bids) k noLine)) 256) 1797 i records-long h
+  in-records i h = under toRecords (bytesUpTo (λ k. lineBytes (getD (a .bids) k noLine)) 256) bidsFrom i records-long h
 
-  in-rows : (i : ℕ) → i < 261 → getD (stored a) i 0 ≡ getD toRows i 0
-  in-rows i h = in-records i (omega arith) ∙ under toRows _ 261 i rows-long h
+  in-rows : (i : ℕ) → i < recordsFrom → getD (stored a) i 0 ≡ getD toRows i 0
+  in-rows i h = in-records i (omega arith) ∙ under toRows _ recordsFrom i rows-long h
 
-  in-bidders : (i : ℕ) → i < 229 → getD (stored a) i 0 ≡ getD toBidders i 0
-  in-bidders i h = in-rows i (omega arith) ∙ under toBidders _ 229 i bidders-long h
+  in-bidders : (i : ℕ) → i < rowsFrom → getD (stored a) i 0 ≡ getD toBidders i 0
+  in-bidders i h = in-rows i (omega arith) ∙ under toBidders _ rowsFrom i bidders-long h
 
-  in-products : (i : ℕ) → i < 101 → getD (stored a) i 0 ≡ getD toProducts i 0
-  in-products i h = in-bidders i (omega arith) ∙ under toProducts _ 101 i products-long h
+  in-products : (i : ℕ) → i < biddersFrom → getD (stored a) i 0 ≡ getD toProducts i 0
+  in-products i h = in-bidders i (omega arith) ∙ under toProducts _ biddersFrom i products-long h
 
-  head-part : Part (stored a) (headBytes a) 13 0
+  head-part : Part (stored a) (headBytes a) headWidth 0
   head-part = record {
     byte = λ j i l e.
         let q : i ≡ j = omega arith in
-        rw q (in-products j (omega arith) ∙ under (headBytes a) (bytesUpTo (productBytes a) 8) 13 j refl l);
+        rw q (in-products j (omega arith) ∙ under (headBytes a) (bytesUpTo (productBytes a) 8) headWidth j refl l);
   }
 
-  product-part : (p : ℕ) → p < 8 → Part (stored a) (productBytes a p) 11 (13 + p * 11)
+  product-part : (p : ℕ) → p < 8 → Part (stored a) (productBytes a p) productWidth (productsFrom + p * productWidth)
   product-part p h = record {
-    byte = λ j i l e. in-products i (omega arith) ∙ behind (productBytes a) 11 (λ k. refl) (headBytes a) 13 8 i p j refl h l e;
+    byte = λ j i l e. in-products i (omega arith) ∙ behind (productBytes a) productWidth (λ k. refl) (headBytes a) headWidth 8 i p j refl h l e;
   }
 
-  bidder-part : (b : ℕ) → b < 32 → Part (stored a) (bidderBytes a b) 4 (101 + b * 4)
+  bidder-part : (b : ℕ) → b < 32 → Part (stored a) (bidderBytes a b) bidderWidth (biddersFrom + b * bidderWidth)
   bidder-part b h = record {
-    byte = λ j i l e. in-bidders i (omega arith) ∙ behind (bidderBytes a) 4 (λ k. refl) toProducts 101 32 i b j products-long h l e;
+    byte = λ j i l e. in-bidders i (omega arith) ∙ behind (bidderBytes a) bidderWidth (λ k. refl) toProducts biddersFrom 32 i b j products-long h l e;
   }
 
-  row-part : (r : ℕ) → r < 8 → Part (stored a) (rowBytes a r) 4 (229 + r * 4)
+  row-part : (r : ℕ) → r < 8 → Part (stored a) (rowBytes a r) rowWidth (rowsFrom + r * rowWidth)
   row-part r h = record {
-    byte = λ j i l e. in-rows i (omega arith) ∙ behind (rowBytes a) 4 (λ k. refl) toBidders 229 8 i r j bidders-long h l e;
+    byte = λ j i l e. in-rows i (omega arith) ∙ behind (rowBytes a) rowWidth (λ k. refl) toBidders rowsFrom 8 i r j bidders-long h l e;
   }
 
-  record-part : (k : ℕ) → k < 256 → Part (stored a) (recordBytes (recordAt (a .records) k)) 6 (261 + k * 6)
+  record-part : (k : ℕ) → k < 256 → Part (stored a) (recordBytes (recordAt (a .records) k)) recordWidth (recordsFrom + k * recordWidth)
   record-part k h = record {
     byte = λ j i l e.
         in-records i (omega arith)
-        ∙ behind (λ k. recordBytes (recordAt (a .records) k)) 6 (λ k. refl) toRows 261 256 i k j rows-long h l e;
+        ∙ behind (λ k. recordBytes (recordAt (a .records) k)) recordWidth (λ k. refl) toRows recordsFrom 256 i k j rows-long h l e;
   }
 
-  line-part : (k : ℕ) → k < 256 → Part (stored a) (lineBytes (getD (a .bids) k noLine)) 6 (1797 + k * 6)
+  line-part : (k : ℕ) → k < 256 → Part (stored a) (lineBytes (getD (a .bids) k noLine)) lineWidth (bidsFrom + k * lineWidth)
   unfolding stored
   line-part k h = record {
-    byte = λ j i l e. behind (λ k. lineBytes (getD (a .bids) k noLine)) 6 (λ k. refl) toRecords 1797 256 i k j records-long h l e;
+    byte = λ j i l e. behind (λ k. lineBytes (getD (a .bids) k noLine)) lineWidth (λ k. refl) toRecords bidsFrom 256 i k j records-long h l e;
   }
 
 -- ---- and back
@@ -205,56 +205,56 @@ module _ {s part : List ℕ} {w off : ℕ} (P : Part s part w off) where
 
 module _ (a : Auction) (L : Long a) (F : Fits a) where
   item-back : (p : ℕ) → p < 8
-      → item (read1 (stored a) (p * 11 + 13)) (read1 (stored a) (p * 11 + 14)) (read3 (stored a) (p * 11 + 15)) ≡ getD (a .terms .item) p noItem
+      → item (read1 (stored a) (p * productWidth + productsFrom)) (read1 (stored a) (p * productWidth + (productsFrom + 1))) (read3 (stored a) (p * productWidth + (productsFrom + 2))) ≡ getD (a .terms .item) p noItem
   item-back p h =
       let P = product-part a p h in
       rw (
-        one-at P 0 (p * 11 + 13) (targetOf (a .terms) p) (omega arith) (omega arith) (F .target p h) refl,
-        one-at P 1 (p * 11 + 14) (capOf (a .terms) p) (omega arith) (omega arith) (F .cap p h) refl,
-        three-at P 2 (p * 11 + 15) (startOf (a .terms) p) (omega arith) (omega arith) (F .start p h) refl refl refl,
+        one-at P 0 (p * productWidth + productsFrom) (targetOf (a .terms) p) (omega arith) (omega arith) (F .target p h) refl,
+        one-at P 1 (p * productWidth + (productsFrom + 1)) (capOf (a .terms) p) (omega arith) (omega arith) (F .cap p h) refl,
+        three-at P 2 (p * productWidth + (productsFrom + 2)) (startOf (a .terms) p) (omega arith) (omega arith) (F .start p h) refl refl refl,
       )
 
-  price-back : (p : ℕ) → p < 8 → read3 (stored a) (p * 11 + 18) ≡ priceAt a p
-  price-back p h = three-at (product-part a p h) 5 (p * 11 + 18) (priceAt a p) (omega arith) (omega arith) (F .price p h) refl refl refl
+  price-back : (p : ℕ) → p < 8 → read3 (stored a) (p * productWidth + (productsFrom + 5)) ≡ priceAt a p
+  price-back p h = three-at (product-part a p h) 5 (p * productWidth + (productsFrom + 5)) (priceAt a p) (omega arith) (omega arith) (F .price p h) refl refl refl
 
-  before-back : (p : ℕ) → p < 8 → read3 (stored a) (p * 11 + 21) ≡ beforeAt a p
-  before-back p h = three-at (product-part a p h) 8 (p * 11 + 21) (beforeAt a p) (omega arith) (omega arith) (F .before p h) refl refl refl
+  before-back : (p : ℕ) → p < 8 → read3 (stored a) (p * productWidth + (productsFrom + 8)) ≡ beforeAt a p
+  before-back p h = three-at (product-part a p h) 8 (p * productWidth + (productsFrom + 8)) (beforeAt a p) (omega arith) (omega arith) (F .before p h) refl refl refl
 
-  initial-back : (b : ℕ) → b < 32 → tranches (read2 (stored a) (b * 4 + 101)) ≡ getD (a .terms .eligibility) b (tranches 0)
+  initial-back : (b : ℕ) → b < 32 → tranches (read2 (stored a) (b * bidderWidth + biddersFrom)) ≡ getD (a .terms .eligibility) b (tranches 0)
   initial-back b h =
-      rw (two-at (bidder-part a b h) 0 (b * 4 + 101) (initialOf (a .terms) b) (omega arith) (omega arith) (F .initial b h) refl refl)
+      rw (two-at (bidder-part a b h) 0 (b * bidderWidth + biddersFrom) (initialOf (a .terms) b) (omega arith) (omega arith) (F .initial b h) refl refl)
 
-  free-back : (b : ℕ) → b < 32 → tranches (read2 (stored a) (b * 4 + 103)) ≡ getD (a .free) b (tranches 0)
-  free-back b h = rw (two-at (bidder-part a b h) 2 (b * 4 + 103) (freeOf a b) (omega arith) (omega arith) (F .free b h) refl refl)
+  free-back : (b : ℕ) → b < 32 → tranches (read2 (stored a) (b * bidderWidth + (biddersFrom + 2))) ≡ getD (a .free) b (tranches 0)
+  free-back b h = rw (two-at (bidder-part a b h) 2 (b * bidderWidth + (biddersFrom + 2)) (freeOf a b) (omega arith) (omega arith) (F .free b h) refl refl)
 
-  row-back : (i : ℕ) → i < 8 → row (read2 (stored a) (i * 4 + 229)) (read2 (stored a) (i * 4 + 231)) ≡ getD (a .terms .row) i noRow
+  row-back : (i : ℕ) → i < 8 → row (read2 (stored a) (i * rowWidth + rowsFrom)) (read2 (stored a) (i * rowWidth + (rowsFrom + 2))) ≡ getD (a .terms .row) i noRow
   row-back i h =
       let P = row-part a i h in
       rw (
-        two-at P 0 (i * 4 + 229) (percentOf (a .terms) i) (omega arith) (omega arith) (F .percent i h) refl refl,
-        two-at P 2 (i * 4 + 231) (decrementOf (a .terms) i) (omega arith) (omega arith) (F .decrement i h) refl refl,
+        two-at P 0 (i * rowWidth + rowsFrom) (percentOf (a .terms) i) (omega arith) (omega arith) (F .percent i h) refl refl,
+        two-at P 2 (i * rowWidth + (rowsFrom + 2)) (decrementOf (a .terms) i) (omega arith) (omega arith) (F .decrement i h) refl refl,
       )
 
-  record-back : (k : ℕ) → k < 256 → recordFrom (stored a) (k * 6 + 261) ≡ recordAt (a .records) k
+  record-back : (k : ℕ) → k < 256 → recordFrom (stored a) (k * recordWidth + recordsFrom) ≡ recordAt (a .records) k
   record-back k h =
       let P = record-part a k h in
       let r = recordAt (a .records) k in
       rw (
-        one-at P 0 (k * 6 + 261) (goingIn r) (omega arith) (omega arith) (F .going k h) refl,
-        one-at P 1 (k * 6 + 261 + 1) (deniedIn r) (omega arith) (omega arith) (F .denied k h) refl,
-        one-at P 2 (k * 6 + 261 + 2) (retainedIn r) (omega arith) (omega arith) (F .retained k h) refl,
-        three-at P 3 (k * 6 + 261 + 3) (exitIn r) (omega arith) (omega arith) (F .exit k h) refl refl refl,
+        one-at P 0 (k * recordWidth + recordsFrom) (goingIn r) (omega arith) (omega arith) (F .going k h) refl,
+        one-at P 1 (k * recordWidth + recordsFrom + 1) (deniedIn r) (omega arith) (omega arith) (F .denied k h) refl,
+        one-at P 2 (k * recordWidth + recordsFrom + 2) (retainedIn r) (omega arith) (omega arith) (F .retained k h) refl,
+        three-at P 3 (k * recordWidth + recordsFrom + 3) (exitIn r) (omega arith) (omega arith) (F .exit k h) refl refl refl,
       )
 
-  line-back : (k : ℕ) → k < 256 → lineFrom (stored a) (k * 6 + 1797) ≡ getD (a .bids) k noLine
+  line-back : (k : ℕ) → k < 256 → lineFrom (stored a) (k * lineWidth + bidsFrom) ≡ getD (a .bids) k noLine
   line-back k h =
       let P = line-part a k h in
       let l = getD (a .bids) k noLine in
       rw (
-        one-at P 0 (k * 6 + 1797) (bidIn l) (omega arith) (omega arith) (F .bid k h) refl,
-        one-at P 1 (k * 6 + 1797 + 1) (withdrawnIn l) (omega arith) (omega arith) (F .withdrawn k h) refl,
-        three-at P 2 (k * 6 + 1797 + 2) (exitOn l) (omega arith) (omega arith) (F .leaving k h) refl refl refl,
-        one-at P 5 (k * 6 + 1797 + 5) (l .priority) (omega arith) (omega arith) (F .priority k h) refl,
+        one-at P 0 (k * lineWidth + bidsFrom) (bidIn l) (omega arith) (omega arith) (F .bid k h) refl,
+        one-at P 1 (k * lineWidth + bidsFrom + 1) (withdrawnIn l) (omega arith) (omega arith) (F .withdrawn k h) refl,
+        three-at P 2 (k * lineWidth + bidsFrom + 2) (exitOn l) (omega arith) (omega arith) (F .leaving k h) refl refl refl,
+        one-at P 5 (k * lineWidth + bidsFrom + 5) (l .priority) (omega arith) (omega arith) (F .priority k h) refl,
       )
 
   terms-back : termsFrom (stored a) ≡ a .terms

@@ -4,6 +4,7 @@ use mathlib.Core.List.{List, [], _∷_, _++_}
 use Prim.Native.Nat.{ℕ, zero, suc, _+_, _*_, _/_, _%_}
 use lib.ListN.{length, getD}
 use lib.Dec.{eqb}
+pub use Rattle.layout.specs.Sections.{headWidth, productWidth, bidderWidth, rowWidth, recordWidth, lineWidth, productsFrom, biddersFrom, rowsFrom, recordsFrom, bidsFrom, stateLength}
 use Rattle.rules.specs.declared.Line.{Line}
 use Rattle.rules.specs.declared.Record.{Record}
 use Rattle.rules.specs.declared.Terms.{Terms}
@@ -14,25 +15,6 @@ use Rattle.rules.specs.Card.{line, noLine}
 use Rattle.rules.specs.Settings.{item, row, targetOf, capOf, startOf, initialOf, percentOf, decrementOf}
 use Rattle.rules.specs.Held.{entry, goingIn, deniedIn, retainedIn, exitIn, recordAt, freeOf}
 use Rattle.rules.specs.Bid.{bidIn, withdrawnIn, exitOn, priceAt, beforeAt}
-
--- 13 bytes, 8 products of 11, 32 bidders of 4, 8 rows of 4, 256 records of 6, 256 bid lines of 6
-abbrev pub stateLength : ℕ
-stateLength = 3333
-
-abbrev pub productsFrom : ℕ
-productsFrom = 13
-
-abbrev pub biddersFrom : ℕ
-biddersFrom = 101
-
-abbrev pub rowsFrom : ℕ
-rowsFrom = 229
-
-abbrev pub recordsFrom : ℕ
-recordsFrom = 261
-
-abbrev pub bidsFrom : ℕ
-bidsFrom = 1797
 
 -- ---- to bytes
 
@@ -114,9 +96,11 @@ termsFrom s = record {
   bidders = read1 s 3;
   rows = read1 s 4;
   statewide = tranches (read2 s 7);
-  item = listOf (λ p. item (read1 s (p * 11 + productsFrom)) (read1 s (p * 11 + 14)) (read3 s (p * 11 + 15))) 8;
-  eligibility = listOf (λ b. tranches (read2 s (b * 4 + biddersFrom))) 32;
-  row = listOf (λ i. row (read2 s (i * 4 + rowsFrom)) (read2 s (i * 4 + 231))) 8;
+  item = listOf (λ p.
+      item (read1 s (p * productWidth + productsFrom)) (read1 s (p * productWidth + (productsFrom + 1)))
+      (read3 s (p * productWidth + (productsFrom + 2)))) 8;
+  eligibility = listOf (λ b. tranches (read2 s (b * bidderWidth + biddersFrom))) 32;
+  row = listOf (λ i. row (read2 s (i * rowWidth + rowsFrom)) (read2 s (i * rowWidth + (rowsFrom + 2)))) 8;
 }
 
 unfoldable pub loaded : List ℕ → Auction
@@ -125,11 +109,11 @@ loaded s = record {
   round = read2 s 5;
   filed = read4 s 9;
   terms = termsFrom s;
-  price = listOf (λ p. read3 s (p * 11 + 18)) 8;
-  before = listOf (λ p. read3 s (p * 11 + 21)) 8;
-  free = listOf (λ b. tranches (read2 s (b * 4 + 103))) 32;
-  records = listOf (λ k. recordFrom s (k * 6 + recordsFrom)) 256;
-  bids = listOf (λ k. lineFrom s (k * 6 + bidsFrom)) 256;
+  price = listOf (λ p. read3 s (p * productWidth + (productsFrom + 5))) 8;
+  before = listOf (λ p. read3 s (p * productWidth + (productsFrom + 8))) 8;
+  free = listOf (λ b. tranches (read2 s (b * bidderWidth + (biddersFrom + 2)))) 32;
+  records = listOf (λ k. recordFrom s (k * recordWidth + recordsFrom)) 256;
+  bids = listOf (λ k. lineFrom s (k * lineWidth + bidsFrom)) 256;
 }
 
 -- "all zero as issued"

@@ -15,25 +15,25 @@ use Rattle.rules.specs.Settings.{targetOf, startOf}
 use Rattle.rules.specs.Held.{goingIn, deniedIn, retainedIn, exitIn, held, freeOf, eligibility, excess}
 use Rattle.rules.specs.Bid.{hasFiled, slotOf, recordOf, priceAt, beforeAt}
 use Rattle.rules.specs.Cutback.{givenFor, revised}
-use Rattle.rules.specs.Layout.{productsFrom, biddersFrom, rowsFrom, recordsFrom, bidsFrom, loaded}
+use Rattle.rules.specs.Layout.{productsFrom, biddersFrom, rowsFrom, recordsFrom, bidsFrom, loaded, productWidth, bidderWidth, rowWidth, recordWidth, lineWidth, stateLength}
 use Rattle.rules.specs.Standing.{isOpen, stands}
 use Rattle.rules.specs.Calls.{openCall, fileCall, calculateCall, cutbackCall, returnCall, writeCall}
 
 -- bytes that are a standing state
 pub record StandsIn (s : List ℕ) : Type 0 where
-  pub long : length s ≡ 3333
+  pub long : length s ≡ stateLength
   pub standing : stands (loaded s) ≡ true
   pub bits : loaded s .filed < 4294967296
 
 -- what is past the counts in use, and the slots not filed: every byte of it is 0
 pub record SpareZero (s : List ℕ) : Type 0 where
-  pub products : (p j : ℕ) → loaded s .terms .products ≤ p → p < 8 → j < 11 → getD s (p * 11 + productsFrom + j) 0 ≡ 0
-  pub bidders : (b j : ℕ) → loaded s .terms .bidders ≤ b → b < 32 → j < 4 → getD s (b * 4 + biddersFrom + j) 0 ≡ 0
-  pub rows : (i j : ℕ) → loaded s .terms .rows ≤ i → i < 8 → j < 4 → getD s (i * 4 + rowsFrom + j) 0 ≡ 0
-  pub records : (k j : ℕ) → k < 256 → (loaded s .terms .bidders ≤ k / 8) ⊎ (loaded s .terms .products ≤ k % 8) → j < 6
-      → getD s (k * 6 + recordsFrom + j) 0 ≡ 0
-  pub lines : (k j : ℕ) → k < 256 → (hasFiled (loaded s) (k / 8) ≡ false) ⊎ (loaded s .terms .products ≤ k % 8) → j < 6
-      → getD s (k * 6 + bidsFrom + j) 0 ≡ 0
+  pub products : (p j : ℕ) → loaded s .terms .products ≤ p → p < 8 → j < productWidth → getD s (p * productWidth + productsFrom + j) 0 ≡ 0
+  pub bidders : (b j : ℕ) → loaded s .terms .bidders ≤ b → b < 32 → j < bidderWidth → getD s (b * bidderWidth + biddersFrom + j) 0 ≡ 0
+  pub rows : (i j : ℕ) → loaded s .terms .rows ≤ i → i < 8 → j < rowWidth → getD s (i * rowWidth + rowsFrom + j) 0 ≡ 0
+  pub records : (k j : ℕ) → k < 256 → (loaded s .terms .bidders ≤ k / 8) ⊎ (loaded s .terms .products ≤ k % 8) → j < recordWidth
+      → getD s (k * recordWidth + recordsFrom + j) 0 ≡ 0
+  pub lines : (k j : ℕ) → k < 256 → (hasFiled (loaded s) (k / 8) ≡ false) ⊎ (loaded s .terms .products ≤ k % 8) → j < lineWidth
+      → getD s (k * lineWidth + bidsFrom + j) 0 ≡ 0
   pub marks : (b : ℕ) → loaded s .terms .bidders ≤ b → b < 32 → hasFiled (loaded s) b ≡ false
 
 -- each refusal, which is an answer with a number other than 0, "changes no lent byte"

@@ -11,9 +11,9 @@ use lib.Dec.{ltb, eqb}
 use Rattle.rules.specs.declared.Pick.{Pick}
 use Rattle.rules.specs.declared.Pick.the-variants.{At, Nobody}
 use Rattle.rules.specs.declared.Place.{Place}
-use Rattle.rules.specs.Count.{pickIf, better, sumUpTo}
+use Rattle.rules.specs.Count.{pickIf, better, firstUpTo, never, sumUpTo}
 use Rattle.rules.specs.Accept.{nowhere, placeAt, changed, column, heldOf, leavingOf, movingOf, riseOf, retain, deny, cancel}
-use Rattle.rules.proofs.Sums.{sum-ext, sum-one, sum-ge}
+use Rattle.rules.proofs.Sums.{sum-ext, sum-one, sum-ge, best-found, first-stays}
 use Rattle.search.specs.declared.Best.{Best}
 use Rattle.search.specs.Search.{found, nobody, noted, higherOf, highestUpTo}
 use Rattle.search.specs.Room.{Fits, Room}
@@ -53,6 +53,33 @@ module _ (ranks : List ℕ) (b : ℕ) where
 
   pub highest-who : (m : ℕ) (best : Best) → best ≡ noted rankAt (highestUpTo ranks b m) → best .who ≡ highestUpTo ranks b m
   highest-who m best e = ap (λ b. b .who) e ∙ noted-who (λ p. ltb 0 (rankAt p)) rankAt (highestUpTo ranks b m)
+
+-- ---- the first that passes a test
+
+-- the same test, number by number, finds the same
+test-by : (f g : ℕ → Bool) (n : ℕ) (q : Pick) → f n ≡ g n → better f never q n ≡ better g never q n
+test-by f g n Nobody e = ap (λ t. pickIf t n Nobody) e
+test-by f g n (At j) e = ap (λ t. pickIf (t && never n j) n (At j)) e
+
+pub first-ext : (f g : ℕ → Bool) (n : ℕ) → ((i : ℕ) → i < n → f i ≡ g i) → firstUpTo f n ≡ firstUpTo g n
+first-ext f g zero h = refl
+first-ext f g (suc n) h =
+    ap (λ q. better f never q n) (first-ext f g n (λ i l. h i (omega arith)))
+    ∙ test-by f g n (firstUpTo g n) (h n (omega arith))
+
+-- none passes before the first
+module _ (has : ℕ → Bool) (m i : ℕ) (e : firstUpTo has m ≡ At i) where
+  before-by : (q : Pick) → firstUpTo has i ≡ q → q ≡ Nobody
+  before-by Nobody f = refl
+  before-by (At j) f =
+      let l = best-found has never m i e .0 in
+      let s = sym e ∙ first-stays has i j m f (omega arith) in
+      let z : i ≡ j = cc in
+      let w = best-found has never i j f .0 in
+      absurd (let x : ⊥ = omega arith in x)
+
+  pub first-before : firstUpTo has i ≡ Nobody
+  first-before = before-by (firstUpTo has i) refl
 
 -- ---- the place of bidder b on product p stored anew
 

@@ -1,5 +1,5 @@
-// The searches of "Calculating", and the changes that a tranche kept makes to one place. The searches are lent numbers that stand
-// beside the places: a copy of the places for each search would be most of the work.
+// The searches of "Calculating", and the changes that a tranche kept makes to one place. The searches of step 2 are lent numbers
+// that stand beside the places, so that none reads a whole place.
 ghost use mathlib.Core.Path.{_≡_};
 ghost use Prim.Native.Nat.{ℕ, _≤_, _<_};
 ghost use mathlib.Core.Bool.{_&&_};
@@ -11,10 +11,11 @@ ghost use Rattle.rules.specs.Accept.{column, every, heldOf, leftOf, riseOf};
 ghost use Rattle.rules.specs.Round.{drawn};
 ghost use Rattle.search.specs.Search.{nobody, higherOf, sooner, nextUpTo, highestUpTo};
 ghost use Rattle.search.specs.Room.{Fits, Drawn};
-ghost use Rattle.search.specs.Step.{Holds, Targets, shortBy, Timed, rankOf, Numbered, keptOne, lossBy, cancelSome};
+ghost use Rattle.search.specs.Step.{Holds, shortBy, Timed, rankOf, Numbered, keptOne, lossBy, cancelSome};
+ghost use Rattle.table.specs.Rows.{placesIn};
 use rules::Pick;
 use rules::Place;
-use rules::Terms;
+use table::WIDTH;
 
 // ---- Searches
 
@@ -88,61 +89,45 @@ pub fn is_above(standing: i32) -> bool
     standing > 0
 }
 
-fn held_on(places: [Place; 256], product: usize, bidders: usize) -> u32
+fn held_on(ps: &[[u32; WIDTH]; 256], product: usize, bidders: usize) -> u32
     requires { ⌜ (product < 8) × (bidders ≤ 32) ⌝ }
-    ensures { λ r. ⌜ (r ≡ column heldOf places product bidders) × (r ≤ 6291360) ⌝ }
+    ensures { λ r. ⌜ (r ≡ column heldOf (placesIn (now (ps .entry))) product bidders) × (r ≤ 6291360) ⌝ }
 {
     let mut sum: u32 = 0;
     let mut i: usize = 0;
     while i < bidders {
-        let k = i * 8 + product;
-        let l = places[k];
-        sum += l.holds.held();
+        sum += table::held(ps, i * 8 + product);
         i += 1;
     }
     sum
 }
 
-pub fn held_all(places: [Place; 256], bidders: usize) -> [u32; 8]
+pub fn held_all(ps: &[[u32; WIDTH]; 256], bidders: usize) -> [u32; 8]
     requires { ⌜ bidders ≤ 32 ⌝ }
-    ensures { λ r. ⌜ (length r ≡ 8) × Holds r places bidders ⌝ }
+    ensures { λ r. ⌜ (length r ≡ 8) × Holds r (placesIn (now (ps .entry))) bidders ⌝ }
 {
     let mut all = [0u32; 8];
     let mut p: usize = 0;
     while p < 8 {
-        all[p] = held_on(places, p, bidders);
+        all[p] = held_on(ps, p, bidders);
         p += 1;
     }
     all
 }
 
 // Withdrawals and switches that may yet be kept.
-pub fn left(places: [Place; 256], bidders: usize) -> u32
+pub fn left(ps: &[[u32; WIDTH]; 256], bidders: usize) -> u32
     requires { ⌜ bidders ≤ 32 ⌝ }
-    ensures { λ r. ⌜ (r ≡ every leftOf places bidders) × (r ≤ 33553920) ⌝ }
+    ensures { λ r. ⌜ (r ≡ every leftOf (placesIn (now (ps .entry))) bidders) × (r ≤ 33553920) ⌝ }
 {
     let n = bidders * 8;
     let mut sum: u32 = 0;
     let mut k: usize = 0;
     while k < n {
-        let l = places[k];
-        sum += l.leaving.count.0 as u32 + l.moving.0 as u32;
+        sum += table::left(ps, k);
         k += 1;
     }
     sum
-}
-
-pub fn targets_of(t: Terms) -> [u16; 8]
-    ensures { λ r. ⌜ Targets r t ⌝ }
-{
-    let mut all = [0u16; 8];
-    let mut p: usize = 0;
-    while p < 8 {
-        let i = t.item[p];
-        all[p] = i.target.0;
-        p += 1;
-    }
-    all
 }
 
 fn is_short(held: u32, target: u16, tick: u8) -> bool
@@ -298,22 +283,16 @@ pub fn cancel_some(l: Place, count: u32) -> Place
 
 // ---- The numbers that go with the places
 
-pub struct Numbers {
-    pub turns: [u64; 256],
-    pub ranks: [u32; 256],
-}
-
-pub fn numbers_of(places: [Place; 256]) -> Numbers
-    ensures { λ r. ⌜ Numbered places (r .turns) (r .ranks) ⌝ }
+// Written where they stand: returned they would be copied.
+pub fn number_all(ps: &[[u32; WIDTH]; 256], turns: &mut [u64; 256], ranks: &mut [u32; 256])
+    requires { ⌜ (length (now turns) ≡ 256) × (length (now ranks) ≡ 256) ⌝ }
+    ensures { λ _. ⌜ Numbered (placesIn (now (ps .entry))) (now (turns .exit)) (now (ranks .exit)) ⌝ }
 {
-    let mut turns = [0u64; 256];
-    let mut ranks = [0u32; 256];
     let mut k: usize = 0;
     while k < 256 {
-        let l = places[k];
+        let l = table::place_at(ps, k);
         turns[k] = turn_of(l);
         ranks[k] = rank_of(l);
         k += 1;
     }
-    Numbers { turns, ranks }
 }

@@ -3,6 +3,7 @@ mod start;
 
 use answers::Kind;
 use answers::answer;
+use layout::STATE;
 pub use start::run;
 use words::Input;
 use words::keep_rest;
@@ -12,7 +13,7 @@ ghost use Rattle.boxed.specs.Called.{Called, Reached};
 ghost use lib.ListN.{length};
 
 // A line, or the end of one that was too long, which is not answered again.
-fn answer_unless(skip: bool, line: &[u8], kind: Kind, path: &[u8], state: &mut [u8; 3333])
+fn answer_unless(skip: bool, line: &[u8], kind: Kind, path: &[u8], state: &mut [u8; STATE])
     ensures { λ _. ⌜ Called (now (state .entry)) (now (state .exit)) ⌝ }
 {
     if !skip {
@@ -27,7 +28,7 @@ fn answer_lines(
     skipping: bool,
     kind: Kind,
     path: &[u8],
-    state: &mut [u8; 3333],
+    state: &mut [u8; STATE],
 ) -> usize
     requires { ⌜ full ≤ length (now buf) ⌝ }
     ensures { λ r. ⌜ (r ≤ full) × Reached (now (state .entry)) (now (state .exit)) ⌝ }
@@ -53,7 +54,7 @@ fn answer_last(
     skipping: bool,
     kind: Kind,
     path: &[u8],
-    state: &mut [u8; 3333],
+    state: &mut [u8; STATE],
 )
     requires { ⌜ end ≤ length (now buf) ⌝ }
     ensures { λ _. ⌜ Reached (now (state .entry)) (now (state .exit)) ⌝ }
@@ -64,7 +65,7 @@ fn answer_last(
 }
 
 // Reads once, and answers each line that is then whole. A full buffer without a line end is a line that is too long.
-fn turn(buf: &mut [u8], from: Input, kind: Kind, path: &[u8], state: &mut [u8; 3333]) -> Input
+fn turn(buf: &mut [u8], from: Input, kind: Kind, path: &[u8], state: &mut [u8; STATE]) -> Input
     ensures { λ _. ⌜ Reached (now (state .entry)) (now (state .exit)) ⌝ }
 {
     let end = from.end;
@@ -86,7 +87,7 @@ fn turn(buf: &mut [u8], from: Input, kind: Kind, path: &[u8], state: &mut [u8; 3
 
 // Room for a line of 2,048 bytes and its end. A proved loop has to end, and nothing says that an input does: so it counts its
 // turns down, from a number that no run uses up.
-fn serve(kind: Kind, path: &[u8], state: &mut [u8; 3333])
+fn serve(kind: Kind, path: &[u8], state: &mut [u8; STATE])
     ensures { λ _. ⌜ Reached (now (state .entry)) (now (state .exit)) ⌝ }
 {
     let mut buf = [0u8; 2049];

@@ -1,6 +1,7 @@
 // The whole program: the box that its argument names, and the lines of standard input.
 use crate::serve;
 use answers::Kind;
+use layout::STATE;
 use say::put;
 use say::put_named;
 use say::send;
@@ -43,7 +44,7 @@ fn unread(why: i32) {
 
 // A box that is not there is issued. One of another length is served too, so that each call answers its refusal.
 fn serve_box(path: &[u8]) {
-    let mut state = [0u8; 3333];
+    let mut state = [0u8; STATE];
     match store::load(path, &mut state) {
         Loaded::Missing => serve(Kind::Filed, path, &mut state),
         Loaded::Whole => serve(Kind::Filed, path, &mut state),
@@ -61,7 +62,7 @@ pub fn run() {
     let n = os::arg(1, &mut path);
     let why = os::errno();
     if why == libc::EINVAL {
-        let mut state = [0u8; 3333];
+        let mut state = [0u8; STATE];
         serve(Kind::Loose, b"", &mut state);
         return;
     }

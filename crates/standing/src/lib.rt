@@ -1,4 +1,4 @@
-// Document 01, "Standing means": whether a loaded state may stand. What each clause says is in the crate rules,
+// Document 01, "Standing means": whether lent bytes are a state that may stand. What each clause says is in the crate rules,
 // specs/Standing.antt.
 ghost use mathlib.Core.Path.{_≡_};
 ghost use mathlib.Core.Bool.{true, _&&_, cond};
@@ -7,100 +7,77 @@ ghost use lib.Dec.{ltb};
 ghost use Rattle.rules.specs.Count.{allUpTo};
 ghost use Rattle.rules.specs.Card.{lineZero};
 ghost use Rattle.rules.specs.Standing.{productStands, recordStands, bidderStands, zeroFrom, slotStands, phaseStands, stands};
-ghost use Rattle.held.specs.Counts.{Counts};
-use rules::Auction;
+ghost use Rattle.rules.specs.Layout.{loaded};
+ghost use Rattle.book.specs.Lent.{Long, Lent};
+ghost use Rattle.bids.specs.Tally.{Judging};
 use rules::Line;
 
 // A line from the n-th on is 0.
 fn zero_past(l: Line, p: usize, n: usize) -> bool
     ensures { λ r. ⌜ r ≡ cond (ltb p n) true (lineZero l) ⌝ }
 {
-    if p < n {
-        return true;
-    }
-    l.is_zero()
+    if p < n { true } else { l.is_zero() }
 }
 
 // The lines from the n-th on are 0.
 fn zero_from(lines: [Line; 8], n: usize) -> bool
     ensures { λ r. ⌜ r ≡ zeroFrom lines n ⌝ }
 {
+    let mut ok = true;
     let mut p: usize = 0;
     while p < 8 {
         let l = lines[p];
-        if !zero_past(l, p, n) {
-            return false;
-        }
+        ok = ok & zero_past(l, p, n);
         p += 1;
     }
-    true
+    ok
 }
 
 // "filed cards pass 6 to 13", and a slot that is not filed is 0
-fn slot_stands(a: Auction, b: usize) -> bool
-    requires { ⌜ Counts a × (b < 32) ⌝ }
-    ensures { λ r. ⌜ r ≡ slotStands a b ⌝ }
+fn slot_stands(s: &[u8], ticks: &[u8; 8], b: usize) -> bool
+    requires { ⌜ Judging (now s) (now ticks) b ⌝ }
+    ensures { λ r. ⌜ r ≡ slotStands (loaded (now (s .entry))) b ⌝ }
 {
-    let bidders = a.terms.bidders as usize;
-    let lines = bids::slot(a, b);
-    if !bids::has_filed(a, b) {
+    let lines = bids::slot(s, b);
+    if !book::has_filed(s, b) {
         return zero_from(lines, 0);
     }
-    if b >= bidders {
-        return false;
-    }
-    if bids::judge(a, b, lines) != 0 {
-        return false;
-    }
-    zero_from(lines, a.terms.products as usize)
+    (b < book::bidders(s))
+        & ((bids::judge(s, ticks, b, lines) == 0) & zero_from(lines, book::products(s)))
 }
 
-fn slots_stand(a: Auction) -> bool
-    requires { ⌜ Counts a ⌝ }
-    ensures { λ r. ⌜ r ≡ allUpTo (slotStands a) 32 ⌝ }
+fn slots_stand(s: &[u8]) -> bool
+    requires { ⌜ Lent (now s) ⌝ }
+    ensures { λ r. ⌜ r ≡ allUpTo (slotStands (loaded (now (s .entry)))) 32 ⌝ }
 {
+    let ticks = held::ticks(s);
+    let mut ok = true;
     let mut b: usize = 0;
     while b < 32 {
-        if !slot_stands(a, b) {
-            return false;
-        }
+        ok = ok & slot_stands(s, &ticks, b);
         b += 1;
     }
-    true
+    ok
 }
 
-fn body_stands(a: Auction) -> bool
-    requires { ⌜ Counts a ⌝ }
-    ensures { λ r. ⌜ r ≡ (allUpTo (productStands a) 8 && (allUpTo (recordStands a) 256 && (allUpTo (bidderStands a) 32 && (allUpTo (slotStands a) 32 && phaseStands a)))) ⌝ }
+fn body_stands(s: &[u8]) -> bool
+    requires { ⌜ Lent (now s) ⌝ }
+    ensures { λ r. ⌜ r ≡ (allUpTo (productStands (loaded (now (s .entry)))) 8 && (allUpTo (recordStands (loaded (now (s .entry)))) 256 && (allUpTo (bidderStands (loaded (now (s .entry)))) 32 && (allUpTo (slotStands (loaded (now (s .entry)))) 32 && phaseStands (loaded (now (s .entry))))))) ⌝ }
 {
-    if !holdings::products_stand(a) {
-        return false;
-    }
-    if !holdings::records_stand(a) {
-        return false;
-    }
-    if !holdings::bidders_stand(a) {
-        return false;
-    }
-    if !slots_stand(a) {
-        return false;
-    }
-    phases::phase_stands(a)
+    let products = holdings::products_stand(s);
+    let records = holdings::records_stand(s);
+    let bidders = holdings::bidders_stand(s);
+    products & (records & (bidders & (slots_stand(s) & phases::phase_stands(s))))
 }
 
 // "settings within limits, round 1 to 4,095", and all the rest
-pub fn stands(a: Auction) -> bool
-    ensures { λ r. ⌜ r ≡ stands a ⌝ }
+pub fn stands(s: &[u8]) -> bool
+    requires { ⌜ Long (now s) ⌝ }
+    ensures { λ r. ⌜ r ≡ stands (loaded (now (s .entry))) ⌝ }
 {
-    let t = a.terms;
-    if !settings::within_limits(t) {
+    if !settings::within_limits(book::terms(s)) {
         return false;
     }
-    if a.round < 1 {
-        return false;
-    }
-    if a.round > 4095 {
-        return false;
-    }
-    body_stands(a)
+    let round = book::round(s);
+    ((1 <= round) & (round <= 4095)) & body_stands(s)
 }

@@ -6,6 +6,7 @@ use mathlib.Core.List.{List, [], _∷_, _++_}
 use lib.Dec.{eqb}
 use Rattle.store.specs.declared.Loaded.{Loaded}
 use Rattle.store.specs.declared.Loaded.the-variants.{Missing, Whole, Wrong, Unread}
+use Rattle.layout.specs.Sections.{stateLength}
 
 -- unless the file was whole, the state is as it was
 abbrev pub Kept : Loaded → List ℕ → List ℕ → Type 0
@@ -16,7 +17,7 @@ Kept (Unread why) before after = after ≡ before
 
 -- a file is a state's exactly where it has as many bytes as a state
 abbrev pub ofLength : ℕ → Loaded
-ofLength n = cond (eqb n 3333) Whole Wrong
+ofLength n = cond (eqb n stateLength) Whole Wrong
 
 -- `.new`, and a path with it at its end
 abbrev pub dotNew : List ℕ

@@ -4,6 +4,10 @@ ghost use Rattle.io.specs.Counts.{Counts};
 ghost use Prim.Native.Nat.{_<_};
 ghost use lib.ListN.{getD, take};
 ghost use Rattle.store.specs.Store.{Kept, ofLength, dotNew, newName};
+use layout::STATE;
+
+// A file longer than a state is seen to be.
+const ROOM: usize = STATE + 1;
 
 // What a file held.
 pub enum Loaded {
@@ -52,19 +56,19 @@ fn read_whole(fd: i32, buf: &mut [u8]) -> Filled {
     Filled::Bytes(end)
 }
 
-fn copy_state(room: &[u8; 3334], state: &mut [u8; 3333]) {
+fn copy_state(room: &[u8; ROOM], state: &mut [u8; STATE]) {
     let mut i = 0;
-    while i < 3333 {
+    while i < STATE {
         state[i] = room[i];
         i += 1;
     }
 }
 
 // A file of so many bytes is a state's, or has another length.
-fn taken(n: usize, room: &[u8; 3334], state: &mut [u8; 3333]) -> Loaded
+fn taken(n: usize, room: &[u8; ROOM], state: &mut [u8; STATE]) -> Loaded
     ensures { λ r. ⌜ (r ≡ ofLength n) × Kept r (now (state .entry)) (now (state .exit)) ⌝ }
 {
-    if n == 3333 {
+    if n == STATE {
         copy_state(room, state);
         return Loaded::Whole;
     }
@@ -72,7 +76,7 @@ fn taken(n: usize, room: &[u8; 3334], state: &mut [u8; 3333]) -> Loaded
 }
 
 // The room has one byte more than a state, so that a longer file is told from a whole one.
-pub fn load(path: &[u8], state: &mut [u8; 3333]) -> Loaded
+pub fn load(path: &[u8], state: &mut [u8; STATE]) -> Loaded
     ensures { λ r. ⌜ Kept r (now (state .entry)) (now (state .exit)) ⌝ }
 {
     let fd = os::open_read(path);
@@ -83,7 +87,7 @@ pub fn load(path: &[u8], state: &mut [u8; 3333]) -> Loaded
         }
         return Loaded::Unread(why);
     }
-    let mut room = [0u8; 3334];
+    let mut room = [0u8; ROOM];
     let filled = read_whole(fd, &mut room);
     let why = os::errno();
     libc::close(fd);
@@ -93,13 +97,13 @@ pub fn load(path: &[u8], state: &mut [u8; 3333]) -> Loaded
     }
 }
 
-fn equal(a: &[u8; 3333], b: &[u8; 3333]) -> bool {
+fn equal(a: &[u8; STATE], b: &[u8; STATE]) -> bool {
     check::same(a, b)
 }
 
 // Whether the file holds the state still. No file counts as a box that is issued, all zero.
-pub fn same(path: &[u8], state: &[u8; 3333]) -> bool {
-    let mut held = [0u8; 3333];
+pub fn same(path: &[u8], state: &[u8; STATE]) -> bool {
+    let mut held = [0u8; STATE];
     match load(path, &mut held) {
         Loaded::Missing => equal(&held, state),
         Loaded::Whole => equal(&held, state),
@@ -190,7 +194,7 @@ fn replace(name: &[u8], path: &[u8], state: &[u8]) -> Saved
     Saved::Done
 }
 
-pub fn save(path: &[u8], state: &[u8; 3333]) -> Saved {
+pub fn save(path: &[u8], state: &[u8; STATE]) -> Saved {
     let mut name = io::buffer();
     let n = new_name(path, &mut name);
     if n == 0 {

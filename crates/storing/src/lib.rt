@@ -1,19 +1,32 @@
-// Fields to bytes, most significant first. Each function writes its own part and leaves the rest: sets s k bytes is s with the bytes from k on.
+// The auction is written where it stands in the lent bytes: a call writes the parts that it changes, and leaves the rest. What each
+// function ensures holds for every auction that the bytes hold before it, so that one write follows another without reading back.
 ghost use mathlib.Core.Path.{_≡_};
 ghost use mathlib.Core.List.{_++_};
-ghost use Prim.Native.Nat.{_+_, _≤_};
-ghost use lib.ListN.{length};
+ghost use Prim.Native.Nat.{_+_, _≤_, _<_};
+ghost use lib.ListN.{length, replicate};
 ghost use lib.Seq.{sets};
-ghost use Rattle.rules.specs.Layout.{stateLength, productsFrom, biddersFrom, rowsFrom, recordsFrom, bidsFrom, byte1, bytes2, bytes3, bytes4, bytesUpTo, headBytes, recordBytes, lineBytes};
-ghost use Rattle.storing.specs.Parts.{itemBytes, productPart, bidderPart, rowPart, recordPart, linePart};
-use rules::Auction;
+ghost use Rattle.rules.specs.declared.Auction.{Auction};
+ghost use Rattle.rules.specs.Calls.{opened};
+ghost use Rattle.rules.specs.Layout.{stateLength, productsFrom, biddersFrom, rowsFrom, byte1, bytes2, bytes3, bytes4, headBytes, productBytes, bidderBytes, rowBytes, recordBytes, lineBytes, stored, loaded};
+ghost use Rattle.book.specs.Lent.{Long};
+ghost use Rattle.table.specs.Rows.{placesIn};
+ghost use Rattle.storing.specs.Written.{Writes, withPhase, withRound, withFiled, withSlot, withoutLines, withFree, withPrices, withLimits, withRecords, amounts, recordsIn, each};
 use rules::Item;
 use rules::Line;
+use rules::Quote;
 use rules::Record;
-use rules::Row;
+use rules::Terms;
 use rules::Tranches;
 
-// ---- Numbers
+// The phase; and what is lent is bytes, so that they are those of the auction in them.
+pub fn as_stored(s: &[u8]) -> u8
+    requires { ⌜ Long (now s) ⌝ }
+    ensures { λ r. ⌜ (r ≡ loaded (now (s .entry)) .phase) × (now (s .entry) ≡ stored (loaded (now (s .entry)))) ⌝ }
+{
+    s[layout::PHASE]
+}
+
+// ---- Numbers, most significant byte first
 
 // A number of eight bits fits its byte.
 fn byte(s: &mut [u8], k: usize, x: u8)
@@ -59,25 +72,6 @@ fn four(s: &mut [u8], k: usize, x: u32)
 
 // ---- One entry
 
-fn product(s: &mut [u8], k: usize, item: Item, price: u32, before: u32)
-    requires { ⌜ k + 11 ≤ length (now s) ⌝ }
-    ensures { λ _. ⌜ now (s .exit) ≡ sets (now (s .entry)) k (itemBytes item price before) ⌝ }
-{
-    one(s, k, item.target.0);
-    one(s, k + 1, item.cap.0);
-    three(s, k + 2, item.start);
-    three(s, k + 5, price);
-    three(s, k + 8, before);
-}
-
-fn pair(s: &mut [u8], k: usize, x: u16, y: u16)
-    requires { ⌜ k + 4 ≤ length (now s) ⌝ }
-    ensures { λ _. ⌜ now (s .exit) ≡ sets (now (s .entry)) k (bytes2 x ++ bytes2 y) ⌝ }
-{
-    two(s, k, x);
-    two(s, k + 2, y);
-}
-
 fn record(s: &mut [u8], k: usize, r: Record)
     requires { ⌜ k + 6 ≤ length (now s) ⌝ }
     ensures { λ _. ⌜ now (s .exit) ≡ sets (now (s .entry)) k (recordBytes r) ⌝ }
@@ -98,79 +92,205 @@ fn line(s: &mut [u8], k: usize, l: Line)
     byte(s, k + 5, l.priority);
 }
 
-// ---- Sections
+// ---- The head
 
-pub fn head(a: Auction, s: &mut [u8])
-    requires { ⌜ length (now s) ≡ stateLength ⌝ }
-    ensures { λ _. ⌜ now (s .exit) ≡ sets (now (s .entry)) 0 (headBytes a) ⌝ }
+pub fn phase(s: &mut [u8], x: u8)
+    requires { ⌜ Long (now s) ⌝ }
+    ensures { λ _. ⌜ Writes (now (s .entry)) (now (s .exit)) (λ a. withPhase a x) ⌝ }
 {
-    byte(s, 0, a.phase);
-    byte(s, 1, a.terms.unit);
-    byte(s, 2, a.terms.products);
-    byte(s, 3, a.terms.bidders);
-    byte(s, 4, a.terms.rows);
-    two(s, 5, a.round);
-    two(s, 7, a.terms.statewide.0);
-    four(s, 9, a.filed);
+    byte(s, layout::PHASE, x);
 }
 
-pub fn products(item: [Item; 8], price: [u32; 8], before: [u32; 8], s: &mut [u8])
-    requires { ⌜ length (now s) ≡ stateLength ⌝ }
-    ensures { λ _. ⌜ now (s .exit) ≡ sets (now (s .entry)) productsFrom (bytesUpTo (productPart item price before) 8) ⌝ }
+pub fn round(s: &mut [u8], x: u16)
+    requires { ⌜ Long (now s) ⌝ }
+    ensures { λ _. ⌜ Writes (now (s .entry)) (now (s .exit)) (λ a. withRound a x) ⌝ }
+{
+    two(s, layout::ROUND, x);
+}
+
+// "A bitmap marks who has filed."
+pub fn filed(s: &mut [u8], x: u32)
+    requires { ⌜ Long (now s) ⌝ }
+    ensures { λ _. ⌜ Writes (now (s .entry)) (now (s .exit)) (λ a. withFiled a x) ⌝ }
+{
+    four(s, layout::FILED, x);
+}
+
+// ---- The lines
+
+// A bidder's eight lines.
+pub fn slot(s: &mut [u8], b: usize, lines: [Line; 8])
+    requires { ⌜ Long (now s) × (b < 32) ⌝ }
+    ensures { λ _. ⌜ ((a : Auction) → length (a .bids) ≡ 256 → now (s .entry) ≡ stored a → now (s .exit) ≡ stored (withSlot a b lines)) ⌝ }
+{
+    let from = b * 8 * layout::LINE + layout::BIDS;
+    let mut p: usize = 0;
+    while p < 8 {
+        let l = lines[p];
+        line(s, p * layout::LINE + from, l);
+        p += 1;
+    }
+}
+
+pub fn no_lines(s: &mut [u8])
+    requires { ⌜ Long (now s) ⌝ }
+    ensures { λ _. ⌜ Writes (now (s .entry)) (now (s .exit)) (λ a. withoutLines a) ⌝ }
+{
+    let mut k: usize = 0;
+    while k < 256 {
+        let l = Line::none();
+        line(s, k * layout::LINE + layout::BIDS, l);
+        k += 1;
+    }
+}
+
+// ---- The bidders and the products
+
+// The free eligibility of every bidder.
+pub fn free(s: &mut [u8], free: [Tranches; 32])
+    requires { ⌜ Long (now s) ⌝ }
+    ensures { λ _. ⌜ Writes (now (s .entry)) (now (s .exit)) (λ a. withFree a free) ⌝ }
+{
+    let mut b: usize = 0;
+    while b < 32 {
+        let f = free[b];
+        two(s, b * layout::SEAT + layout::FREE, f.0);
+        b += 1;
+    }
+}
+
+// The going price of every product, and the price before its latest fall.
+pub fn prices(s: &mut [u8], price: [Quote; 8], before: [Quote; 8])
+    requires { ⌜ Long (now s) ⌝ }
+    ensures { λ _. ⌜ Writes (now (s .entry)) (now (s .exit)) (λ a. withPrices a (amounts price) (amounts before)) ⌝ }
+{
+    let mut p: usize = 0;
+    while p < 8 {
+        let x = price[p];
+        let y = before[p];
+        let going = x.price;
+        let last = y.price;
+        three(s, p * layout::LANE + layout::PRICE, going.amount());
+        three(s, p * layout::LANE + layout::BEFORE, last.amount());
+        p += 1;
+    }
+}
+
+// The revised targets and caps.
+pub fn limits(s: &mut [u8], targets: [Tranches; 8], caps: [Tranches; 8])
+    requires { ⌜ Long (now s) ⌝ }
+    ensures { λ _. ⌜ Writes (now (s .entry)) (now (s .exit)) (λ a. withLimits a targets caps) ⌝ }
+{
+    let mut p: usize = 0;
+    while p < 8 {
+        let x = targets[p];
+        let y = caps[p];
+        one(s, p * layout::LANE + layout::TARGET, x.0);
+        one(s, p * layout::LANE + layout::CAP, y.0);
+        p += 1;
+    }
+}
+
+// ---- The records
+
+// Those of a round that is calculated, from its table.
+pub fn records(s: &mut [u8], ps: &[[u32; table::WIDTH]; 256])
+    requires { ⌜ Long (now s) ⌝ }
+    ensures { λ _. ⌜ Writes (now (s .entry)) (now (s .exit)) (λ a. withRecords a (recordsIn (placesIn (now (ps .entry))))) ⌝ }
+{
+    let mut k: usize = 0;
+    while k < 256 {
+        let r = table::record(ps, k);
+        record(s, k * layout::RECORD + layout::RECORDS, r);
+        k += 1;
+    }
+}
+
+// ---- An auction opened
+
+fn head(s: &mut [u8], t: Terms)
+    requires { ⌜ Long (now s) ⌝ }
+    ensures { λ _. ⌜ (now (s .exit) ≡ sets (now (s .entry)) 0 (headBytes (opened t))) × Long (now (s .exit)) ⌝ }
+{
+    byte(s, layout::PHASE, 1);
+    byte(s, layout::UNIT, t.unit);
+    byte(s, layout::PRODUCTS, t.products);
+    byte(s, layout::BIDDERS, t.bidders);
+    byte(s, layout::ROWS, t.rows);
+    two(s, layout::ROUND, 1);
+    two(s, layout::STATEWIDE, t.statewide.0);
+    four(s, layout::FILED, 0);
+}
+
+// Both prices are the starting price.
+fn product(s: &mut [u8], k: usize, item: Item)
+    requires { ⌜ k + 11 ≤ length (now s) ⌝ }
+    ensures { λ _. ⌜ now (s .exit) ≡ sets (now (s .entry)) k (byte1 (item .target .0) ++ byte1 (item .cap .0) ++ bytes3 (item .start) ++ bytes3 (item .start) ++ bytes3 (item .start)) ⌝ }
+{
+    one(s, k, item.target.0);
+    one(s, k + 1, item.cap.0);
+    three(s, k + 2, item.start);
+    three(s, k + 5, item.start);
+    three(s, k + 8, item.start);
+}
+
+fn pair(s: &mut [u8], k: usize, x: u16, y: u16)
+    requires { ⌜ k + 4 ≤ length (now s) ⌝ }
+    ensures { λ _. ⌜ now (s .exit) ≡ sets (now (s .entry)) k (bytes2 x ++ bytes2 y) ⌝ }
+{
+    two(s, k, x);
+    two(s, k + 2, y);
+}
+
+fn products(s: &mut [u8], t: Terms)
+    requires { ⌜ Long (now s) ⌝ }
+    ensures { λ _. ⌜ now (s .exit) ≡ each (productBytes (opened t)) productsFrom 11 8 (now (s .entry)) ⌝ }
+{
+    let mut p: usize = 0;
+    while p < 8 {
+        let v = t.item[p];
+        product(s, p * layout::LANE + layout::TARGET, v);
+        p += 1;
+    }
+}
+
+// "f is the initial eligibility."
+fn bidders(s: &mut [u8], t: Terms)
+    requires { ⌜ Long (now s) ⌝ }
+    ensures { λ _. ⌜ now (s .exit) ≡ each (bidderBytes (opened t)) biddersFrom 4 32 (now (s .entry)) ⌝ }
+{
+    let mut b: usize = 0;
+    while b < 32 {
+        let e = t.eligibility[b];
+        pair(s, b * layout::SEAT + layout::INITIAL, e.0, e.0);
+        b += 1;
+    }
+}
+
+fn rows(s: &mut [u8], t: Terms)
+    requires { ⌜ Long (now s) ⌝ }
+    ensures { λ _. ⌜ now (s .exit) ≡ each (rowBytes (opened t)) rowsFrom 4 8 (now (s .entry)) ⌝ }
 {
     let mut i: usize = 0;
     while i < 8 {
-        let v = item[i];
-        product(s, i * 11 + 13, v, price[i], before[i]);
+        let v = t.row[i];
+        pair(
+            s,
+            i * layout::ROW + layout::PERCENT,
+            v.percent,
+            v.decrement.0,
+        );
         i += 1;
     }
 }
 
-pub fn bidders(eligibility: [Tranches; 32], free: [Tranches; 32], s: &mut [u8])
-    requires { ⌜ length (now s) ≡ stateLength ⌝ }
-    ensures { λ _. ⌜ now (s .exit) ≡ sets (now (s .entry)) biddersFrom (bytesUpTo (bidderPart eligibility free) 32) ⌝ }
+// The records and the lines are zero as issued.
+pub fn opened(s: &mut [u8], t: Terms)
+    requires { ⌜ now s ≡ replicate stateLength 0 ⌝ }
+    ensures { λ _. ⌜ now (s .exit) ≡ stored (opened t) ⌝ }
 {
-    let mut i: usize = 0;
-    while i < 32 {
-        let e = eligibility[i];
-        let f = free[i];
-        pair(s, i * 4 + 101, e.0, f.0);
-        i += 1;
-    }
-}
-
-pub fn rows(row: [Row; 8], s: &mut [u8])
-    requires { ⌜ length (now s) ≡ stateLength ⌝ }
-    ensures { λ _. ⌜ now (s .exit) ≡ sets (now (s .entry)) rowsFrom (bytesUpTo (rowPart row) 8) ⌝ }
-{
-    let mut i: usize = 0;
-    while i < 8 {
-        let v = row[i];
-        pair(s, i * 4 + 229, v.percent, v.decrement.0);
-        i += 1;
-    }
-}
-
-pub fn records(list: [Record; 256], s: &mut [u8])
-    requires { ⌜ length (now s) ≡ stateLength ⌝ }
-    ensures { λ _. ⌜ now (s .exit) ≡ sets (now (s .entry)) recordsFrom (bytesUpTo (recordPart list) 256) ⌝ }
-{
-    let mut i: usize = 0;
-    while i < 256 {
-        let v = list[i];
-        record(s, i * 6 + 261, v);
-        i += 1;
-    }
-}
-
-pub fn lines(list: [Line; 256], s: &mut [u8])
-    requires { ⌜ length (now s) ≡ stateLength ⌝ }
-    ensures { λ _. ⌜ now (s .exit) ≡ sets (now (s .entry)) bidsFrom (bytesUpTo (linePart list) 256) ⌝ }
-{
-    let mut i: usize = 0;
-    while i < 256 {
-        let v = list[i];
-        line(s, i * 6 + 1797, v);
-        i += 1;
-    }
+    head(s, t);
+    products(s, t);
+    bidders(s, t);
+    rows(s, t);
 }

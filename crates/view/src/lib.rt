@@ -1,12 +1,11 @@
-// `show`: the manager's view of a state that stands.
-use rules::Auction;
-use rules::Item;
+// `show`: the manager's view of a state that stands, read where it lies.
+ghost use Prim.Native.Nat.{_≤_, _<_};
+use layout::STATE;
 use rules::Phase;
 use rules::Record;
 use say::put;
 use say::put_named;
 use say::send;
-use told::entry;
 use told::phase_word;
 
 fn unit_word(out: &mut [u8; 1024], at: usize, unit: u8) -> usize {
@@ -17,55 +16,75 @@ fn unit_word(out: &mut [u8; 1024], at: usize, unit: u8) -> usize {
 }
 
 // `ok PHASE round R unit U statewide S`
-fn head(a: Auction) {
+fn head(s: &[u8; STATE]) {
     let mut out = [0u8; 1024];
+    let statewide = book::statewide(s);
     let x = put(&mut out, 0, b"ok ");
-    let y = phase_word(&mut out, x, Phase::of(a.phase));
-    let z = put_named(&mut out, y, b" round ", a.round as u64);
+    let y = phase_word(&mut out, x, Phase::of(book::phase(s)));
+    let z = put_named(&mut out, y, b" round ", book::round(s) as u64);
     let v = put(&mut out, z, b" unit ");
-    let w = unit_word(&mut out, v, a.terms.unit);
-    let t = put_named(&mut out, w, b" statewide ", a.terms.statewide.0 as u64);
+    let w = unit_word(&mut out, v, book::unit(s));
+    let t = put_named(&mut out, w, b" statewide ", statewide.0 as u64);
     let u = put(&mut out, t, b"\n");
     send(&out, u);
 }
 
-// Held, for counts that the arrays have room for, as those of a standing state.
-fn held_on(a: Auction, p: usize) -> u32 {
-    if 8 < a.terms.products {
+// Held, for counts that the sections have room for, as those of a standing state.
+fn held_on(s: &[u8; STATE], p: usize) -> u32
+    requires { ⌜ p < 8 ⌝ }
+{
+    if 8 < book::products(s) {
         return 0;
     }
-    if 32 < a.terms.bidders {
+    if 32 < book::bidders(s) {
         return 0;
     }
-    if p < 8 {
-        return held::held(a, p);
+    if 8 < book::rows(s) {
+        return 0;
     }
-    0
+    held::held(s, p)
+}
+
+fn put_settings(out: &mut [u8; 1024], s: &[u8; STATE], p: usize) -> usize
+    requires { ⌜ p < 8 ⌝ }
+{
+    let target = book::target(s, p);
+    let cap = book::cap(s, p);
+    let start = book::start(s, p);
+    let a = put_named(out, 0, b"  product ", p as u64);
+    let b = put_named(out, a, b" target ", target.0 as u64);
+    let c = put_named(out, b, b" cap ", cap.0 as u64);
+    put_named(out, c, b" start ", start.amount() as u64)
 }
 
 // `  product J target T cap C start S price P before Q held H`
-fn product(p: usize, item: Item, price: u32, before: u32, held: u32) {
+fn product(s: &[u8; STATE], p: usize)
+    requires { ⌜ p < 8 ⌝ }
+{
+    let price = book::price(s, p);
+    let before = book::before(s, p);
+    let held = held_on(s, p);
     let mut out = [0u8; 1024];
-    let a = put_named(&mut out, 0, b"  product ", p as u64);
-    let b = put_named(&mut out, a, b" target ", item.target.0 as u64);
-    let c = put_named(&mut out, b, b" cap ", item.cap.0 as u64);
-    let d = put_named(&mut out, c, b" start ", item.start as u64);
-    let e = put_named(&mut out, d, b" price ", price as u64);
-    let f = put_named(&mut out, e, b" before ", before as u64);
-    let g = put_named(&mut out, f, b" held ", held as u64);
-    let h = put(&mut out, g, b"\n");
-    send(&out, h);
+    let a = put_settings(&mut out, s, p);
+    let b = put_named(&mut out, a, b" price ", price.amount() as u64);
+    let c = put_named(&mut out, b, b" before ", before.amount() as u64);
+    let d = put_named(&mut out, c, b" held ", held as u64);
+    let e = put(&mut out, d, b"\n");
+    send(&out, e);
 }
 
-fn products(a: Auction) {
-    let n = a.terms.products as usize;
-    let item = a.terms.item;
+// A count in use, or as many as there is room for.
+fn at_most(n: usize, most: usize) -> usize
+    ensures { λ r. ⌜ r ≤ most ⌝ }
+{
+    if n < most { n } else { most }
+}
+
+fn products(s: &[u8; STATE]) {
+    let n = at_most(book::products(s), 8);
     let mut p = 0;
-    while p < 8 {
-        if n <= p {
-            return;
-        }
-        product(p, item[p], a.price[p], a.before[p], held_on(a, p));
+    while p < n {
+        product(s, p);
         p += 1;
     }
 }
@@ -77,71 +96,51 @@ fn put_record(out: &mut [u8; 1024], at: usize, r: Record) -> usize {
     put_named(out, c, b" ", r.retained.exit as u64)
 }
 
-fn put_at(out: &mut [u8; 1024], at: usize, records: [Record; 256], k: usize) -> usize {
-    if k < 256 {
-        return put_record(out, at, records[k]);
-    }
-    at
-}
-
-fn put_records(
-    out: &mut [u8; 1024],
-    at: usize,
-    records: [Record; 256],
-    b: usize,
-    products: usize,
-) -> usize {
+fn put_records(out: &mut [u8; 1024], at: usize, s: &[u8; STATE], b: usize) -> usize
+    requires { ⌜ b < 32 ⌝ }
+{
+    let n = at_most(book::products(s), 8);
     let mut to = at;
     let mut p = 0;
-    while p < 8 {
-        if products <= p {
-            return to;
-        }
-        to = put_at(out, to, records, entry(b, p));
+    while p < n {
+        to = put_record(out, to, book::record(s, b * 8 + p));
         p += 1;
     }
     to
 }
 
-fn filed(a: Auction, b: usize) -> u64 {
-    if b < 32 {
-        if bids::has_filed(a, b) {
-            return 1;
-        }
-    }
-    0
+fn one_if(t: bool) -> u64 {
+    if t { 1 } else { 0 }
 }
 
 // `  bidder I eligibility E free F filed 0|1`, then ` G D R X` for each product
-fn bidder(a: Auction, b: usize, eligibility: u16, free: u16) {
+fn bidder(s: &[u8; STATE], b: usize)
+    requires { ⌜ b < 32 ⌝ }
+{
+    let eligibility = book::initial(s, b);
+    let free = book::free(s, b);
+    let filed = one_if(book::has_filed(s, b));
     let mut out = [0u8; 1024];
     let x = put_named(&mut out, 0, b"  bidder ", b as u64);
-    let y = put_named(&mut out, x, b" eligibility ", eligibility as u64);
-    let z = put_named(&mut out, y, b" free ", free as u64);
-    let v = put_named(&mut out, z, b" filed ", filed(a, b));
-    let records = a.records;
-    let w = put_records(&mut out, v, records, b, a.terms.products as usize);
+    let y = put_named(&mut out, x, b" eligibility ", eligibility.0 as u64);
+    let z = put_named(&mut out, y, b" free ", free.0 as u64);
+    let v = put_named(&mut out, z, b" filed ", filed);
+    let w = put_records(&mut out, v, s, b);
     let t = put(&mut out, w, b"\n");
     send(&out, t);
 }
 
-fn bidders(a: Auction) {
-    let n = a.terms.bidders as usize;
-    let eligibility = a.terms.eligibility;
+fn bidders(s: &[u8; STATE]) {
+    let n = at_most(book::bidders(s), 32);
     let mut b = 0;
-    while b < 32 {
-        if n <= b {
-            return;
-        }
-        let first = eligibility[b];
-        let free = a.free[b];
-        bidder(a, b, first.0, free.0);
+    while b < n {
+        bidder(s, b);
         b += 1;
     }
 }
 
-pub fn show(a: Auction) {
-    head(a);
-    products(a);
-    bidders(a);
+pub fn show(s: &[u8; STATE]) {
+    head(s);
+    products(s);
+    bidders(s);
 }

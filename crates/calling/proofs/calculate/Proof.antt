@@ -5,32 +5,8 @@ use borrow.Author.Needs.{needs}
 use Rattle.calling.proofs.calculate.Statement.{statement}
 use Rattle.calling.proofs.calculate.Tie as tie
 
-all-numbers-requires : tie.Need-all-numbers-requires
-all-numbers-requires c κs = search needs
-
 returns : tie.Need-returns
 returns c = inl refl
-
-draw-of-requires : tie.Need-draw-of-requires
-draw-of-requires c κs = search needs
-
-calculate-on-requires : tie.Need-calculate-on-requires
-calculate-on-requires c κs = search needs
-
-enum-known-kept : tie.Need-enum-known-kept
-enum-known-kept c = search needs
-
-keep-requires : tie.Need-keep-requires
-keep-requires c κs = search needs
-
-calculated-requires : tie.Need-calculated-requires
-calculated-requires c κs = search needs
-
-enum-known-n : tie.Need-enum-known-n
-enum-known-n c = search needs
-
-refused-requires : tie.Need-refused-requires
-refused-requires c κs = search needs
 
 returns-2 : tie.Need-returns-2
 returns-2 c =
@@ -49,15 +25,15 @@ pub calculate-spec : {M : Type 1} → statement M
 calculate-spec =
     tie.close
     (tie.spec
-    all-numbers-requires
+    (λ c κs. search needs)
     returns
-    draw-of-requires
-    calculate-on-requires
-    enum-known-kept
-    keep-requires
-    calculated-requires
-    enum-known-n
-    refused-requires
+    (λ c κs. search needs)
+    (λ c κs. search needs)
+    (λ c. search needs)
+    (λ c κs. search needs)
+    (λ c κs. search needs)
+    (λ c. search needs)
+    (λ c κs. search needs)
     returns-2
     returns-3
     returns-4)

@@ -6,20 +6,8 @@ use borrow.Author.Needs.{needs}
 use Rattle.calling.proofs.open_on.Statement.{statement}
 use Rattle.calling.proofs.open_on.Tie as tie
 
-is-wrong-requires : tie.Need-is-wrong-requires
-is-wrong-requires c κs = search needs
-
-slice-aggregate-open : tie.Need-slice-aggregate-open
-slice-aggregate-open c = search needs
-
-open-requires : tie.Need-open-requires
-open-requires c κs = search needs
-
 returns : tie.Need-returns
 returns c = inl refl
-
-open-requires-2 : tie.Need-open-requires-2
-open-requires-2 c κs = search needs
 
 -- to own settings is to have arrays of their lengths
 returns-2 : tie.Need-returns-2
@@ -31,9 +19,9 @@ pub open-on-spec : {M : Type 1} → statement M
 open-on-spec =
     tie.close
     (tie.spec
-    is-wrong-requires
-    slice-aggregate-open
-    open-requires
+    (λ c κs. search needs)
+    (λ c. search needs)
+    (λ c κs. search needs)
     returns
-    open-requires-2
+    (λ c κs. search needs)
     returns-2)

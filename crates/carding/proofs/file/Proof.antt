@@ -5,32 +5,8 @@ use borrow.Author.Needs.{needs}
 use Rattle.carding.proofs.file.Statement.{statement}
 use Rattle.carding.proofs.file.Tie as tie
 
-card-requires : tie.Need-card-requires
-card-requires c κs = search needs
-
 returns : tie.Need-returns
 returns c = inl refl
-
-file-on-requires : tie.Need-file-on-requires
-file-on-requires c κs = search needs
-
-enum-told : tie.Need-enum-told
-enum-told c = search needs
-
-keep-requires : tie.Need-keep-requires
-keep-requires c κs = search needs
-
-slice-aggregate-line : tie.Need-slice-aggregate-line
-slice-aggregate-line c = search needs
-
-line-requires : tie.Need-line-requires
-line-requires c κs = search needs
-
-enum-known-x : tie.Need-enum-known-x
-enum-known-x c = search needs
-
-refused-requires : tie.Need-refused-requires
-refused-requires c κs = search needs
 
 returns-2 : tie.Need-returns-2
 returns-2 c =
@@ -49,15 +25,15 @@ pub file-spec : {M : Type 1} → statement M
 file-spec =
     tie.close
     (tie.spec
-    card-requires
+    (λ c κs. search needs)
     returns
-    file-on-requires
-    enum-told
-    keep-requires
-    slice-aggregate-line
-    line-requires
-    enum-known-x
-    refused-requires
+    (λ c κs. search needs)
+    (λ c. search needs)
+    (λ c κs. search needs)
+    (λ c. search needs)
+    (λ c κs. search needs)
+    (λ c. search needs)
+    (λ c κs. search needs)
     returns-2
     returns-3
     returns-4)

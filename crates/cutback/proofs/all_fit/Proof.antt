@@ -5,14 +5,15 @@ use native.Mathlib.Numerals.{add-one}
 use borrow.Author.Needs.{needs}
 use Rattle.rules.specs.Count.{allUpTo}
 use Rattle.rules.specs.Cutback.{numbersFit}
+use Rattle.rules.specs.Layout.{loaded}
 use Rattle.cutback.proofs.all_fit.Statement.{statement}
 use Rattle.cutback.proofs.all_fit.Tie as tie
 
 abbrev Inv-loop : tie.InvT-loop
-Inv-loop t targets caps all₀ p₀ all p = (p ≤ 8) × (all ≡ allUpTo (numbersFit t targets caps) p)
+Inv-loop s targets caps all₀ p₀ all p = (p ≤ 8) × (all ≡ allUpTo (numbersFit (loaded s .terms) targets caps) p)
 
 abbrev μ-loop : tie.MeasureT-loop
-μ-loop t targets caps all₀ p₀ all p = 8 - p
+μ-loop s targets caps all₀ p₀ all p = 8 - p
 
 loop-holds : tie.Need-loop-holds Inv-loop μ-loop
 unfolding allUpTo

@@ -1,33 +1,44 @@
-use mathlib.Core.Path.{_≡_}
+use mathlib.Core.Path.{_≡_, ap}
 use Prim.Native.Nat.{suc, _≤_, _-_}
 use native.Mathlib.Nat.{le-antisymm}
 use native.Mathlib.Numerals.{add-one}
 use native.Mathlib.Omega.{arith}
 use borrow.Author.Needs.{needs}
-use Rattle.rules.specs.Held.{goingIn, recordAt, place}
-use Rattle.cutback.specs.Cuttable.{goingBy, aboveBy}
+use Rattle.rules.specs.Count.{sumUpTo}
+use Rattle.rules.specs.Held.{goingIn}
+use Rattle.rules.specs.Bid.{recordOf}
+use Rattle.rules.specs.Cutback.{givenFor}
+use Rattle.rules.specs.Layout.{loaded}
 use Rattle.cutback.proofs.Sums.{sum-grows}
 use Rattle.cutback.proofs.cut_from.Statement.{statement}
 use Rattle.cutback.proofs.cut_from.Tie as tie
 
 abbrev Inv-loop : tie.InvT-loop
-Inv-loop products b records caps sum₀ p₀ sum p =
-    (p ≤ products) × ((sum ≡ aboveBy records caps p b) × (sum ≤ goingBy records p b))
+Inv-loop s b caps products sum₀ p₀ sum p =
+    (p ≤ products)
+    × ((sum ≡ sumUpTo (λ p. goingIn (recordOf (loaded s) b p) - givenFor caps p) p) × (sum ≤ sumUpTo (λ p. goingIn (recordOf (loaded s) b p)) p))
 
 abbrev μ-loop : tie.MeasureT-loop
-μ-loop products b records caps sum₀ p₀ sum p = products - p
+μ-loop s b caps products sum₀ p₀ sum p = products - p
 
 add-sum : tie.Need-add-sum Inv-loop μ-loop
 add-sum c =
-    let l = c .before .before .before .before in
-    let a = l .before .args in
-    omega (arith, sum-grows (λ p. goingIn (recordAt (a .t1) (place (a .b) p))) (suc (l .loop .p)) (a .products) (omega arith))
+    let r = c .before .before in
+    let l = r .before .before in
+    let d = l .before in
+    let a = d .before .before .args in
+    let e = ap goingIn (r .record .ensures) in
+    let g = sum-grows (λ p. goingIn (recordOf (loaded (a .s .now)) (a .b) p)) (suc (l .loop .p)) (loaded (a .s .now) .terms .products) (omega (arith, d .products .ensures .0)) in
+    omega (arith, d .before .before .pre .0 .room (a .b) (omega arith))
 
 loop-again : tie.Need-loop-again Inv-loop μ-loop
-loop-again c = rw add-one (omega arith)
+loop-again c = let e = ap goingIn (c .before .before .record .ensures) in rw add-one (omega arith)
 
 returns : tie.Need-returns Inv-loop μ-loop
-returns c = let e = le-antisymm (c .before .loop .inv .0) (c .loop-test .left) in (cc, rw (← e) (c .before .loop .inv .1 .1))
+returns c =
+    let v = c .before .loop .inv in
+    let e = le-antisymm (v .0) (c .loop-test .left) in
+    (cc, rw (← c .before .before .products .ensures .0, ← e) (v .1 .1))
 
 pub cut-from-spec : {M : Type 1} → statement M
 cut-from-spec =
@@ -35,11 +46,11 @@ cut-from-spec =
     (tie.spec
     Inv-loop
     μ-loop
+    (λ c κs. search needs)
     (λ c. search needs)
     (λ c. search needs)
     (λ c. search needs)
-    (λ c. search needs)
-    (λ c. search needs)
+    (λ c κs. search needs)
     (λ c. search needs)
     (λ c. search needs)
     (λ c κs. search needs)

@@ -1,15 +1,28 @@
+use native.Mathlib.Omega.{arith}
 use borrow.Author.Tests.{lt-ltb, le-ltb}
 use borrow.Author.Needs.{needs}
+use Rattle.rules.specs.Layout.{loaded}
 use Rattle.cutback.proofs.numbers_fit.Statement.{statement}
 use Rattle.cutback.proofs.numbers_fit.Tie as tie
 
 returns : tie.Need-returns
-returns c = rw (le-ltb _ _ (c .before .before .if1 .taken))
+returns c =
+    let d = c .before .before in
+    let a = d .before .before .before .before .before .args in
+    rw (le-ltb (a .p) (loaded (a .s .now) .terms .products) (omega (arith, d .if1 .taken, d .before .products .ensures .0)))
 
 returns-2 : tie.Need-returns-2
 returns-2 c =
-    let d = c .before .before .before .before .before in
-    rw (lt-ltb _ _ (d .before .before .before .before .before .if1 .left), c .before .before .still-ranked .ensures)
+    let r = c .before .before in
+    let x = r .before .before .before .before .before .before .before in
+    let d = x .before .before in
+    let a = d .before .before .before .before .before .args in
+    rw (
+      lt-ltb (a .p) (loaded (a .s .now) .terms .products) (omega (arith, d .if1 .left, d .before .products .ensures .0)),
+      r .still-ranked .ensures,
+      x .before .target2 .ensures,
+      x .cap2 .ensures,
+    )
 
 pub numbers-fit-spec : {M : Type 1} → statement M
 numbers-fit-spec =
@@ -19,9 +32,9 @@ numbers-fit-spec =
     (λ c. search needs)
     (λ c. search needs)
     (λ c. search needs)
-    (λ c. search needs)
+    (λ c κs. search needs)
     returns
-    (λ c. search needs)
-    (λ c. search needs)
+    (λ c κs. search needs)
+    (λ c κs. search needs)
     (λ c κs. search needs)
     returns-2)

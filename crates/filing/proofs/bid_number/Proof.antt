@@ -1,4 +1,7 @@
-use mathlib.Core.Path.{_∙_}
+use mathlib.Core.Path.{_≡_, sym, _∙_}
+use mathlib.Core.Bool.{true}
+use lib.Dec.{ltb}
+use Rattle.rules.specs.Layout.{loaded}
 use native.Mathlib.Omega.{arith}
 use borrow.Author.Tests.{lt-ltb, le-ltb, eq-eqb, ne-eqb}
 use borrow.Author.Needs.{needs}
@@ -6,21 +9,34 @@ use Rattle.filing.proofs.bid_number.Statement.{statement}
 use Rattle.filing.proofs.bid_number.Tie as tie
 
 returns : tie.Need-returns
-returns c = search le-ltb
+returns c =
+    let a = c .before .before .before .args in
+    rw (le-ltb (a .bidder) (loaded (a .s .now) .terms .bidders) (omega (arith, c .if1 .taken, c .before .bidders .ensures .0)))
+
+-- a bidder in use
+in-use : (c : tie.After-round) → let a = c .before .before .before .before .args in ltb (a .bidder) (loaded (a .s .now) .terms .bidders) ≡ true
+in-use c =
+    let a = c .before .before .before .before .args in
+    lt-ltb (a .bidder) (loaded (a .s .now) .terms .bidders) (omega (arith, c .before .if1 .left, c .before .before .bidders .ensures .0))
 
 returns-2 : tie.Need-returns-2
 returns-2 c =
-    let a = c .before .before .before .before .args in
-    rw (lt-ltb _ _ (c .before .before .if1 .left), ne-eqb (a .round) (a .a .round) (λ e. c .if2 .taken (omega arith)))
-
-judge-requires : tie.Need-judge-requires
-judge-requires c κs = search needs
+    let a = c .before .before .before .before .before .args in
+    rw (in-use (c .before), ne-eqb (a .round) (loaded (a .s .now) .round) (λ e. c .if2 .taken (e ∙ sym (c .before .round .ensures))))
 
 returns-3 : tie.Need-returns-3
 returns-3 c =
-    let d = c .before .before .before in
-    let a = d .before .before .args in
-    c .judge .ensures ∙ rw (lt-ltb _ _ (d .if1 .left), eq-eqb (a .round) (a .a .round) (omega arith))
+    let a = c .before .before .before .before .before .before .before .before .args in
+    rw (in-use (c .before .before .before .before), eq-eqb (a .round) (loaded (a .s .now) .round) (omega (arith, c .before .before .before .if2 .left, c .before .before .before .before .round .ensures))) (c .judge .ensures)
 
 pub bid-number-spec : {M : Type 1} → statement M
-bid-number-spec = tie.close (tie.spec returns returns-2 judge-requires returns-3)
+bid-number-spec =
+    tie.close
+    (tie.spec
+    (λ c κs. search needs)
+    returns
+    (λ c κs. search needs)
+    returns-2
+    (λ c κs. search needs)
+    (λ c κs. search needs)
+    returns-3)

@@ -1,14 +1,15 @@
 use mathlib.Core.Bool.{Bool, _&&_}
-use mathlib.Core.Path.{_≡_, sym, _∙_}
-use Prim.Native.Nat.{ℕ, _≤_, _-_}
+use mathlib.Core.Path.{_≡_}
+use Prim.Native.Nat.{_-_, _≤_, ℕ}
+use native.Mathlib.Nat.{le-antisymm}
 use borrow.Author.Needs.{needs}
 use lib.Dec.{eqb}
 use Rattle.rules.specs.Bid.{priceAt}
-use Rattle.rules.specs.Count.{firstUpTo}
+use Rattle.rules.specs.Count.{firstUpTo, isAt}
 use Rattle.rules.specs.Held.{ticked}
+use Rattle.rules.specs.Layout.{loaded}
 use Rattle.rules.specs.declared.Auction.{Auction}
-use Rattle.rules.specs.declared.Pick.the-variants.{Nobody}
-use Rattle.held.proofs.Search.{found, found-none, not-yet}
+use Rattle.held.proofs.Found.{one-more}
 use Rattle.held.proofs.at_bottom.Statement.{statement}
 use Rattle.held.proofs.at_bottom.Tie as tie
 
@@ -17,43 +18,19 @@ abbrev atOne : Auction → ℕ → Bool
 atOne a p = ticked a p && eqb (priceAt a p) 1
 
 abbrev Inv-loop : tie.InvT-loop
-Inv-loop a m p₀ p = (p ≤ m) × (firstUpTo (atOne a) p ≡ Nobody)
+Inv-loop s m one₀ p₀ one p = (p ≤ m) × (one ≡ isAt (firstUpTo (atOne (loaded s)) p))
 
 abbrev μ-loop : tie.MeasureT-loop
-μ-loop a m p₀ p = m - p
-
-cast-m : tie.Need-cast-m Inv-loop μ-loop
-cast-m c = search needs
-
-loop-holds : tie.Need-loop-holds Inv-loop μ-loop
-loop-holds c = search needs
-
-fell-to-one-requires : tie.Need-fell-to-one-requires Inv-loop μ-loop
-fell-to-one-requires c κs = search needs
-
-returns : tie.Need-returns Inv-loop μ-loop
-returns c =
-    let a = c .before .before .before .before .before .args .a in
-    let i = c .before .before .before .loop in
-    found (atOne a) (i .p) (i .inv .1) (a .terms .products) (search needs) (sym (c .before .fell-to-one .ensures) ∙ c .if1 .taken)
-
-add-p : tie.Need-add-p Inv-loop μ-loop
-add-p c = search needs
-
-loop-less : tie.Need-loop-less Inv-loop μ-loop
-loop-less c = search needs
+μ-loop s m one₀ p₀ one p = m - p
 
 loop-again : tie.Need-loop-again Inv-loop μ-loop
 loop-again c =
-    let a = c .before .before .before .before .before .args .a in
-    let i = c .before .before .before .loop in
-    (search needs, not-yet (atOne a) (i .p) (i .inv .1) (sym (c .before .fell-to-one .ensures) ∙ c .if1 .left))
+    let v = c .before .before in
+    let s = v .before .before .before .args .s .now in
+    (search needs, one-more (atOne (loaded s)) (v .loop .p) (v .loop .inv .1) (c .fell-to-one .ensures))
 
-returns-2 : tie.Need-returns-2 Inv-loop μ-loop
-returns-2 c =
-    let a = c .before .before .before .args .a in
-    let i = c .before .loop in
-    found-none (atOne a) (i .p) (i .inv .1) (a .terms .products) (search needs) (search needs)
+returns : tie.Need-returns Inv-loop μ-loop
+returns c = cc (le-antisymm (c .before .loop .inv .0) (c .loop-test .left))
 
 pub at-bottom-spec : {M : Type 1} → statement M
 at-bottom-spec =
@@ -61,11 +38,10 @@ at-bottom-spec =
     (tie.spec
     Inv-loop
     μ-loop
-    cast-m
-    loop-holds
-    fell-to-one-requires
-    returns
-    add-p
-    loop-less
+    (λ c κs. search needs)
+    (λ c. search needs)
+    (λ c κs. search needs)
+    (λ c. search needs)
+    (λ c. search needs)
     loop-again
-    returns-2)
+    returns)

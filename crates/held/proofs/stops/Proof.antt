@@ -1,15 +1,13 @@
+use mathlib.Core.Path.{ap}
 use borrow.Author.Needs.{needs}
+use lib.Dec.{eqb}
+use Rattle.held.proofs.Found.{or-is}
 use Rattle.held.proofs.stops.Statement.{statement}
 use Rattle.held.proofs.stops.Tie as tie
 
-at-bottom-requires : tie.Need-at-bottom-requires
-at-bottom-requires c κs = search needs
-
 returns : tie.Need-returns
-returns c = rw (← c .before .at-bottom .ensures, c .if1 .taken)
-
-returns-2 : tie.Need-returns-2
-returns-2 c = rw (← c .before .before .at-bottom .ensures, c .before .if1 .left)
+returns c = or-is (c .before .at-bottom .ensures) (ap (λ x. eqb x 4095) (c .round .ensures))
 
 pub stops-spec : {M : Type 1} → statement M
-stops-spec = tie.close (tie.spec at-bottom-requires returns returns-2)
+stops-spec =
+    tie.close (tie.spec (λ c κs. search needs) (λ c κs. search needs) returns)

@@ -5,11 +5,9 @@ use Rattle.held.proofs.Signed.{back}
 use Rattle.held.proofs.ticked.Statement.{statement}
 use Rattle.held.proofs.ticked.Tie as tie
 
-standing-requires : tie.Need-standing-requires
-standing-requires c κs = search needs
-
 returns : tie.Need-returns
 returns c = ap above (back _ (c .standing .ok) ∙ c .standing .ensures .0)
 
 pub ticked-spec : {M : Type 1} → statement M
-ticked-spec = tie.close (tie.spec standing-requires returns)
+ticked-spec =
+    tie.close (tie.spec (λ c κs. search needs) returns)

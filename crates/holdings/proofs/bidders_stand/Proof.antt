@@ -1,45 +1,16 @@
-use Rattle.rules.specs.Standing.{bidderStands}
-use Prim.Native.Nat.{_≤_, _-_}
-use mathlib.Core.Path.{_≡_, sym}
-use mathlib.Core.Bool.{true}
-use Rattle.rules.specs.Count.{allUpTo}
-use Rattle.rules.proofs.All.{fails, goes-on, passes}
+use Prim.Native.Nat.{_-_}
 use borrow.Author.Needs.{needs}
+use Rattle.rules.specs.Layout.{loaded}
+use Rattle.rules.specs.Standing.{bidderStands}
+use Rattle.held.proofs.Passed.{Passed, all-passed, none-passed, one-passed}
 use Rattle.holdings.proofs.bidders_stand.Statement.{statement}
 use Rattle.holdings.proofs.bidders_stand.Tie as tie
 
 abbrev Inv-loop : tie.InvT-loop
-Inv-loop a b₀ b = (b ≤ 32) × (allUpTo (bidderStands a) b ≡ true)
+Inv-loop s ok₀ b₀ ok b = Passed (bidderStands (loaded s)) 32 b ok
 
 abbrev μ-loop : tie.MeasureT-loop
-μ-loop a b₀ b = 32 - b
-
-loop-holds : tie.Need-loop-holds Inv-loop μ-loop
-unfolding allUpTo
-loop-holds c = search needs
-
-bidder-stands-requires : tie.Need-bidder-stands-requires Inv-loop μ-loop
-bidder-stands-requires c κs = search needs
-
-returns : tie.Need-returns Inv-loop μ-loop
-returns c =
-    let d = c .before .before .before .loop in
-    let t = c .before .bidder-stands in
-    sym (fails _ _ (d .inv .1) 32 (t .result) (t .ensures) (c .if1 .taken) (search needs))
-
-add-b : tie.Need-add-b Inv-loop μ-loop
-add-b c = search needs
-
-loop-less : tie.Need-loop-less Inv-loop μ-loop
-loop-less c = search needs
-
-loop-again : tie.Need-loop-again Inv-loop μ-loop
-loop-again c =
-    let t = c .before .bidder-stands in
-    (search needs, goes-on _ _ (c .before .before .before .loop .inv .1) (t .result) (t .ensures) (c .if1 .left))
-
-returns-2 : tie.Need-returns-2 Inv-loop μ-loop
-returns-2 c = sym (passes _ _ (c .before .loop .inv .1) 32 (search needs) (search needs))
+μ-loop s ok₀ b₀ ok b = 32 - b
 
 pub bidders-stand-spec : {M : Type 1} → statement M
 bidders-stand-spec =
@@ -47,10 +18,9 @@ bidders-stand-spec =
     (tie.spec
     Inv-loop
     μ-loop
-    loop-holds
-    bidder-stands-requires
-    returns
-    add-b
-    loop-less
-    loop-again
-    returns-2)
+    (λ c. none-passed)
+    (λ c κs. search needs)
+    (λ c. search needs)
+    (λ c. search needs)
+    (λ c. one-passed (c .before .before .loop .inv) (c .before .loop-test .taken) (c .bidder-stands .ensures))
+    (λ c. all-passed (c .before .loop .inv) (c .loop-test .left)))

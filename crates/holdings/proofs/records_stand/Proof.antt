@@ -1,45 +1,16 @@
-use Rattle.rules.specs.Standing.{recordStands}
-use Prim.Native.Nat.{_≤_, _-_}
-use mathlib.Core.Path.{_≡_, sym}
-use mathlib.Core.Bool.{true}
-use Rattle.rules.specs.Count.{allUpTo}
-use Rattle.rules.proofs.All.{fails, goes-on, passes}
+use Prim.Native.Nat.{_-_}
 use borrow.Author.Needs.{needs}
+use Rattle.rules.specs.Layout.{loaded}
+use Rattle.rules.specs.Standing.{recordStands}
+use Rattle.held.proofs.Passed.{Passed, all-passed, none-passed, one-passed}
 use Rattle.holdings.proofs.records_stand.Statement.{statement}
 use Rattle.holdings.proofs.records_stand.Tie as tie
 
 abbrev Inv-loop : tie.InvT-loop
-Inv-loop a k₀ k = (k ≤ 256) × (allUpTo (recordStands a) k ≡ true)
+Inv-loop s ok₀ k₀ ok k = Passed (recordStands (loaded s)) 256 k ok
 
 abbrev μ-loop : tie.MeasureT-loop
-μ-loop a k₀ k = 256 - k
-
-loop-holds : tie.Need-loop-holds Inv-loop μ-loop
-unfolding allUpTo
-loop-holds c = search needs
-
-record-stands-requires : tie.Need-record-stands-requires Inv-loop μ-loop
-record-stands-requires c κs = search needs
-
-returns : tie.Need-returns Inv-loop μ-loop
-returns c =
-    let d = c .before .before .before .loop in
-    let t = c .before .record-stands in
-    sym (fails _ _ (d .inv .1) 256 (t .result) (t .ensures) (c .if1 .taken) (search needs))
-
-add-k : tie.Need-add-k Inv-loop μ-loop
-add-k c = search needs
-
-loop-less : tie.Need-loop-less Inv-loop μ-loop
-loop-less c = search needs
-
-loop-again : tie.Need-loop-again Inv-loop μ-loop
-loop-again c =
-    let t = c .before .record-stands in
-    (search needs, goes-on _ _ (c .before .before .before .loop .inv .1) (t .result) (t .ensures) (c .if1 .left))
-
-returns-2 : tie.Need-returns-2 Inv-loop μ-loop
-returns-2 c = sym (passes _ _ (c .before .loop .inv .1) 256 (search needs) (search needs))
+μ-loop s ok₀ k₀ ok k = 256 - k
 
 pub records-stand-spec : {M : Type 1} → statement M
 records-stand-spec =
@@ -47,10 +18,9 @@ records-stand-spec =
     (tie.spec
     Inv-loop
     μ-loop
-    loop-holds
-    record-stands-requires
-    returns
-    add-k
-    loop-less
-    loop-again
-    returns-2)
+    (λ c. none-passed)
+    (λ c κs. search needs)
+    (λ c. search needs)
+    (λ c. search needs)
+    (λ c. one-passed (c .before .before .loop .inv) (c .before .loop-test .taken) (c .record-stands .ensures))
+    (λ c. all-passed (c .before .loop .inv) (c .loop-test .left)))

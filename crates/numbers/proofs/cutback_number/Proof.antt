@@ -1,37 +1,35 @@
-use Prim.Native.Nat.{ℕ}
-use mathlib.Core.Path.{_≡_, refl}
-use denote.Ref.{now}
+use mathlib.Core.Path.{_≡_, refl, sym, _∙_}
 use borrow.Author.Tests.{eq-eqb, ne-eqb}
+use Rattle.rules.specs.Calls.{cutNumber}
+use Rattle.numbers.proofs.StateLaws.{Stood, lent, standing, not-standing, said}
 use borrow.Author.Needs.{needs}
-use Rattle.rules.specs.Calls.{cutNumber, cutbackNumber}
-use Rattle.numbers.proofs.StateLaws.{counts, Stood, standing, not-standing, said}
 use Rattle.numbers.proofs.cutback_number.Statement.{statement}
 use Rattle.numbers.proofs.cutback_number.Tie as tie
 
 returns : tie.Need-returns
 returns c =
-    let d = c .before in
-    let a = d .before .before .args in
-    not-standing (now (a .s)) _ 3 (cutNumber (a .targets) (a .caps)) (d .state-number .ensures) (c .if1 .taken) (λ z. refl)
+    let a = c .before .before .before .args in
+    not-standing (a .s .now) _ 3 (cutNumber (a .targets) (a .caps)) (c .before .state-number .ensures) (c .if1 .taken) (λ z. refl)
 
-stood : (c : tie.Else1) → Stood (now (c .before .before .before .args .s))
+stood : (c : tie.Else1) → Stood (c .before .before .before .args .s .now)
 stood c = standing _ _ (c .before .state-number .ensures) (c .if1 .left)
 
-answered : (c : tie.After-load) → let a = c .before .before .before .before .args in
-    (n : ℕ) → n ≡ cutNumber (a .targets) (a .caps) (c .load .result) → n ≡ cutbackNumber (now (a .s)) (a .targets) (a .caps)
-answered c n h =
-    let a = c .before .before .before .before .args in
-    said _ (stood (c .before)) _ (c .load .ensures) 3 (cutNumber (a .targets) (a .caps)) n h
+returns-2 : tie.Need-returns-2
+returns-2 c =
+    let a = c .before .before .before .before .before .args in
+    said _ (stood (c .before .before)) 3 (cutNumber (a .targets) (a .caps)) 3 (rw (ne-eqb _ 1 (λ e. c .if2 .taken (c .before .phase .ensures ∙ e))))
 
 returns-3 : tie.Need-returns-3
 returns-3 c =
-    let d = c .before .before in
-    answered (d .before .before) 0 (rw (eq-eqb _ 1 (d .if2 .left), ← c .before .may-cut .ensures, c .if3 .taken))
+    let a = c .before .before .before .before .before .before .before .args in
+    said _ (stood (c .before .before .before .before)) 3 (cutNumber (a .targets) (a .caps)) 0
+    (rw (eq-eqb _ 1 (sym (c .before .before .before .phase .ensures) ∙ c .before .before .if2 .left), ← c .before .may-cut .ensures, c .if3 .taken))
 
 returns-4 : tie.Need-returns-4
 returns-4 c =
-    let d = c .before .before in
-    answered (d .before .before) 20 (rw (eq-eqb _ 1 (d .if2 .left), ← c .before .may-cut .ensures, c .if3 .left))
+    let a = c .before .before .before .before .before .before .before .args in
+    said _ (stood (c .before .before .before .before)) 3 (cutNumber (a .targets) (a .caps)) 20
+    (rw (eq-eqb _ 1 (sym (c .before .before .before .phase .ensures) ∙ c .before .before .if2 .left), ← c .before .may-cut .ensures, c .if3 .left))
 
 pub cutback-number-spec : {M : Type 1} → statement M
 cutback-number-spec =
@@ -40,7 +38,7 @@ cutback-number-spec =
     (λ c κs. search needs)
     returns
     (λ c κs. stood c .long)
-    (λ c. answered (c .before .before) 3 (search ne-eqb))
-    (λ c κs. rw (c .before .before .load .ensures) (counts _ (stood (c .before .before .before))))
+    returns-2
+    (λ c κs. lent _ (stood (c .before .before)))
     returns-3
     returns-4)

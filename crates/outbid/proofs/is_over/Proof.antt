@@ -8,7 +8,8 @@ use Rattle.held.proofs.Signed.{less-back}
 use Rattle.outbid.proofs.is_over.Statement.{statement}
 use Rattle.outbid.proofs.is_over.Tie as tie
 
-told : (c : tie.After-is-above) → let a = c .before .before .before .args in c .is-above .result ≡ above (standing (a .held) (a .target))
+told : (c : tie.After-is-above) → let a = c .before .before .before .args in c .is-above .result ≡ above (standing (a .held) (a
+    .target))
 told c =
     let s = c .before .before .before in
     let k : s .args .target ≤ 10000000 = omega arith in
@@ -16,12 +17,6 @@ told c =
 
 returns : tie.Need-returns
 returns c = rw (eq-eqb _ _ (c .if1 .taken))
-
-standing-of-requires : tie.Need-standing-of-requires
-standing-of-requires c κs = search needs
-
-is-above-requires : tie.Need-is-above-requires
-is-above-requires c κs = search needs
 
 returns-2 : tie.Need-returns-2
 returns-2 c = rw (ne-eqb _ _ (c .before .before .before .if1 .left), sym (told (c .before)) ∙ c .if2 .taken)
@@ -31,4 +26,4 @@ returns-3 c = rw (ne-eqb _ _ (c .before .before .before .if1 .left), sym (told (
 
 pub is-over-spec : {M : Type 1} → statement M
 is-over-spec =
-    tie.close (tie.spec returns standing-of-requires is-above-requires returns-2 returns-3)
+    tie.close (tie.spec returns (λ c κs. search needs) (λ c κs. search needs) returns-2 returns-3)

@@ -1,52 +1,21 @@
-use Rattle.rules.specs.Held.{recordAt}
-use Rattle.rules.specs.Standing.{recordZero}
-use Prim.Native.Nat.{_≤_, _-_}
-use mathlib.Core.Path.{_≡_, sym}
-use mathlib.Core.Bool.{true}
-use Rattle.rules.specs.Count.{allUpTo}
-use Rattle.rules.proofs.All.{fails, goes-on, passes}
+use mathlib.Core.Path.{_∙_, ap}
+use Prim.Native.Nat.{_-_}
 use borrow.Author.Needs.{needs}
+use Rattle.rules.specs.Held.{recordAt}
+use Rattle.rules.specs.Layout.{loaded}
+use Rattle.rules.specs.Standing.{recordZero}
+use Rattle.held.proofs.Passed.{Passed, all-passed, none-passed, one-passed}
 use Rattle.phases.proofs.no_records.Statement.{statement}
 use Rattle.phases.proofs.no_records.Tie as tie
 
 abbrev Inv-loop : tie.InvT-loop
-Inv-loop a k₀ k = (k ≤ 256) × (allUpTo (λ k. recordZero (recordAt (a .records) k)) k ≡ true)
+Inv-loop s ok₀ k₀ ok k = Passed (λ k. recordZero (recordAt (loaded s .records) k)) 256 k ok
 
 abbrev μ-loop : tie.MeasureT-loop
-μ-loop a k₀ k = 256 - k
-
-loop-holds : tie.Need-loop-holds Inv-loop μ-loop
-unfolding allUpTo
-loop-holds c = search needs
-
-mul-r : tie.Need-mul-r Inv-loop μ-loop
-mul-r c = search needs
-
-element-copy-out-r : tie.Need-element-copy-out-r Inv-loop μ-loop
-element-copy-out-r c = search needs
-
-is-zero-requires : tie.Need-is-zero-requires Inv-loop μ-loop
-is-zero-requires c κs = search needs
-
-returns : tie.Need-returns Inv-loop μ-loop
-returns c =
-    let d = c .before .before .before .before .loop in
-    let t = c .before .is-zero in
-    sym (fails _ _ (d .inv .1) 256 (t .result) (t .ensures) (c .if1 .taken) (search needs))
-
-add-k : tie.Need-add-k Inv-loop μ-loop
-add-k c = search needs
-
-loop-less : tie.Need-loop-less Inv-loop μ-loop
-loop-less c = search needs
+μ-loop s ok₀ k₀ ok k = 256 - k
 
 loop-again : tie.Need-loop-again Inv-loop μ-loop
-loop-again c =
-    let t = c .before .is-zero in
-    (search needs, goes-on _ _ (c .before .before .before .before .loop .inv .1) (t .result) (t .ensures) (c .if1 .left))
-
-returns-2 : tie.Need-returns-2 Inv-loop μ-loop
-returns-2 c = sym (passes _ _ (c .before .loop .inv .1) 256 (search needs) (search needs))
+loop-again c = one-passed (c .before .before .before .loop .inv) (c .before .before .loop-test .taken) (c .is-zero .ensures ∙ ap recordZero (c .before .record .ensures))
 
 pub no-records-spec : {M : Type 1} → statement M
 no-records-spec =
@@ -54,12 +23,10 @@ no-records-spec =
     (tie.spec
     Inv-loop
     μ-loop
-    loop-holds
-    mul-r
-    element-copy-out-r
-    is-zero-requires
-    returns
-    add-k
-    loop-less
+    (λ c. none-passed)
+    (λ c κs. search needs)
+    (λ c κs. search needs)
+    (λ c. search needs)
+    (λ c. search needs)
     loop-again
-    returns-2)
+    (λ c. all-passed (c .before .loop .inv) (c .loop-test .left)))

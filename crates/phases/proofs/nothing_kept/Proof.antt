@@ -1,34 +1,19 @@
-use mathlib.Core.Path.{_≡_, ap₂}
-use mathlib.Core.Bool.{_&&_}
-use Prim.Native.Nat.{_≤_, _-_}
-use native.Mathlib.Nat.{le-antisymm}
-use native.Mathlib.Numerals.{add-one}
+use mathlib.Core.Path.{ap}
+use Prim.Native.Nat.{_-_}
 use native.Mathlib.Omega.{arith}
 use borrow.Author.Needs.{needs}
 use lib.Dec.{eqb}
-use Rattle.rules.specs.Count.{allUpTo}
+use Rattle.rules.specs.Layout.{loaded}
 use Rattle.rules.specs.Standing.{keptOn}
-use Rattle.rules.proofs.Tests.{said, is-eqb}
+use Rattle.held.proofs.Passed.{Passed, all-passed, none-passed, one-passed}
 use Rattle.phases.proofs.nothing_kept.Statement.{statement}
 use Rattle.phases.proofs.nothing_kept.Tie as tie
 
 abbrev Inv-loop : tie.InvT-loop
-Inv-loop a m ok₀ p₀ ok p = (p ≤ m) × (ok ≡ allUpTo (λ p. eqb (keptOn a p) 0) p)
+Inv-loop s m ok₀ p₀ ok p = Passed (λ p. eqb (keptOn (loaded s) p) 0) (loaded s .terms .products) p ok
 
 abbrev μ-loop : tie.MeasureT-loop
-μ-loop a m ok₀ p₀ ok p = m - p
-
-loop-holds : tie.Need-loop-holds Inv-loop μ-loop
-unfolding allUpTo
-loop-holds c = search needs
-
-loop-again : tie.Need-loop-again Inv-loop μ-loop
-unfolding allUpTo
-loop-again c =
-    let l = c .before .before in
-    let k = keptOn (l .before .before .args .a) (l .loop .p) in
-    rw add-one
-    (search needs, ap₂ _&&_ (l .loop .inv .1) (is-eqb _ k 0 (λ h. omega (arith, said)) (λ h e. omega (arith, said))))
+μ-loop s m ok₀ p₀ ok p = m - p
 
 pub nothing-kept-spec : {M : Type 1} → statement M
 nothing-kept-spec =
@@ -36,10 +21,10 @@ nothing-kept-spec =
     (tie.spec
     Inv-loop
     μ-loop
-    (λ c. search needs)
-    loop-holds
+    (λ c κs. search needs)
+    (λ c. none-passed)
     (λ c κs. search needs)
     (λ c. search needs)
     (λ c. search needs)
-    loop-again
-    (λ c. cc (le-antisymm (c .before .loop .inv .0) (c .loop-test .left))))
+    (λ c. one-passed (c .before .before .loop .inv) (omega arith) (ap (λ x. eqb x 0) (c .kept-on .ensures .0)))
+    (λ c. all-passed (c .before .loop .inv) (omega arith)))

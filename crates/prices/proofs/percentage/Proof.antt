@@ -7,4 +7,4 @@ returns : tie.Need-returns
 returns c = rw (c .if1 .taken, div-zero)
 
 pub percentage-spec : {M : Type 1} → statement M
-percentage-spec = tie.close (tie.spec returns (λ c. search needs) (λ c. search needs) (λ c. search needs))
+percentage-spec = tie.close (tie.spec returns (λ c. search needs) (λ c. search needs) (λ c. search needs) (λ c. search needs))

@@ -1,23 +1,24 @@
-use Rattle.rules.specs.Bid.{priceAt}
-use Rattle.rules.specs.Units.{quote}
-use native.Mathlib.Omega.{arith}
-use Prim.Native.Nat.{_-_}
-use Rattle.rules.proofs.Fill.{Filled, none-filled, one-more, all-filled}
 use borrow.Author.Needs.{needs}
+use Rattle.rules.specs.Units.{quote}
+use Rattle.rules.specs.Bid.{priceAt}
+use Prim.Native.Nat.{_-_}
+use native.Mathlib.Omega.{arith}
+use Rattle.rules.proofs.Fill.{Filled, none-filled, one-more, all-filled}
+use Rattle.rules.specs.Layout.{loaded}
 use Rattle.reports.proofs.going_prices.Statement.{statement}
 use Rattle.reports.proofs.going_prices.Tie as tie
 
 abbrev Inv-loop : tie.InvT-loop
-Inv-loop a unit prices₀ p₀ prices p = Filled (λ p. quote (a .terms .unit) (priceAt a p)) 8 p prices
+Inv-loop s prices₀ p₀ prices p = Filled (λ p. quote (loaded s .terms .unit) (priceAt (loaded s) p)) 8 p prices
 
 abbrev μ-loop : tie.MeasureT-loop
-μ-loop a unit prices₀ p₀ prices p = 8 - p
+μ-loop s prices₀ p₀ prices p = 8 - p
 
 loop-holds : tie.Need-loop-holds Inv-loop μ-loop
 loop-holds c = none-filled _ (search needs)
 
 loop-again : tie.Need-loop-again Inv-loop μ-loop
-loop-again c = one-more _ (c .before .before .before .loop .inv) (omega arith) (λ i. record { price = c .of .ensures i })
+loop-again c = one-more _ (c .before .before .loop .inv) (omega arith) (λ i. record { price = c .price .ensures .0 i })
 
 returns : tie.Need-returns Inv-loop μ-loop
 returns c = all-filled (c .before .loop .inv) (omega arith)
@@ -30,8 +31,6 @@ going-prices-spec =
     μ-loop
     (λ c κs. search needs)
     loop-holds
-    (λ c. search needs)
-    (λ c. search needs)
     (λ c κs. search needs)
     (λ c. search needs)
     (λ c. search needs)

@@ -1,23 +1,23 @@
-use mathlib.Core.Path.{refl}
-use Rattle.rules.specs.Bid.{recordOf}
-use native.Mathlib.Omega.{arith}
-use Prim.Native.Nat.{_-_}
-use Rattle.rules.proofs.Fill.{Filled, none-filled, one-more, all-filled}
 use borrow.Author.Needs.{needs}
+use Rattle.rules.specs.Bid.{recordOf}
+use Prim.Native.Nat.{_-_}
+use native.Mathlib.Omega.{arith}
+use Rattle.rules.proofs.Fill.{Filled, none-filled, one-more, all-filled}
+use Rattle.rules.specs.Layout.{loaded}
 use Rattle.reports.proofs.own_records.Statement.{statement}
 use Rattle.reports.proofs.own_records.Tie as tie
 
 abbrev Inv-loop : tie.InvT-loop
-Inv-loop b a own₀ p₀ own p = Filled (recordOf a b) 8 p own
+Inv-loop s b own₀ p₀ own p = Filled (recordOf (loaded s) b) 8 p own
 
 abbrev μ-loop : tie.MeasureT-loop
-μ-loop b a own₀ p₀ own p = 8 - p
+μ-loop s b own₀ p₀ own p = 8 - p
 
 loop-holds : tie.Need-loop-holds Inv-loop μ-loop
 loop-holds c = none-filled _ (search needs)
 
 loop-again : tie.Need-loop-again Inv-loop μ-loop
-loop-again c = one-more _ (c .before .before .loop .inv) (omega arith) refl
+loop-again c = one-more _ (c .before .before .loop .inv) (omega arith) (c .record .ensures)
 
 returns : tie.Need-returns Inv-loop μ-loop
 returns c = all-filled (c .before .loop .inv) (omega arith)
@@ -32,8 +32,7 @@ own-records-spec =
     loop-holds
     (λ c. search needs)
     (λ c. search needs)
-    (λ c. search needs)
-    (λ c. search needs)
+    (λ c κs. search needs)
     (λ c. search needs)
     (λ c. search needs)
     (λ c. search needs)

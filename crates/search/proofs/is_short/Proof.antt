@@ -7,12 +7,6 @@ use Rattle.held.proofs.Signed.{less-back}
 use Rattle.search.proofs.is_short.Statement.{statement}
 use Rattle.search.proofs.is_short.Tie as tie
 
-standing-of-requires : tie.Need-standing-of-requires
-standing-of-requires c κs = search needs
-
-is-below-requires : tie.Need-is-below-requires
-is-below-requires c κs = search needs
-
 returns : tie.Need-returns
 returns c =
     let s = c .before .before .before in
@@ -24,4 +18,4 @@ returns-2 : tie.Need-returns-2
 returns-2 c = rw (ne-eqb _ _ (c .if1 .left))
 
 pub is-short-spec : {M : Type 1} → statement M
-is-short-spec = tie.close (tie.spec standing-of-requires is-below-requires returns returns-2)
+is-short-spec = tie.close (tie.spec (λ c κs. search needs) (λ c κs. search needs) returns returns-2)

@@ -3,17 +3,11 @@ use borrow.Author.Needs.{needs}
 use Rattle.search.proofs.keep_one.Statement.{statement}
 use Rattle.search.proofs.keep_one.Tie as tie
 
-retain-requires : tie.Need-retain-requires
-retain-requires c κs = search needs
-
 returns : tie.Need-returns
 returns c = rw (lt-ltb _ _ (c .before .if1 .taken)) (c .retain .ensures)
-
-keep-requires : tie.Need-keep-requires
-keep-requires c κs = search needs
 
 returns-2 : tie.Need-returns-2
 returns-2 c = rw (le-ltb _ _ (c .before .if1 .left)) (c .keep .ensures)
 
 pub keep-one-spec : {M : Type 1} → statement M
-keep-one-spec = tie.close (tie.spec retain-requires returns keep-requires returns-2)
+keep-one-spec = tie.close (tie.spec (λ c κs. search needs) returns (λ c κs. search needs) returns-2)

@@ -5,12 +5,6 @@ use Rattle.held.proofs.Signed.{less, less-fits, less-back}
 use Rattle.search.proofs.standing_of.Statement.{statement}
 use Rattle.search.proofs.standing_of.Tie as tie
 
-cast-result : tie.Need-cast-result
-cast-result c = search needs
-
-cast-result-2 : tie.Need-cast-result-2
-cast-result-2 c = search needs
-
 sub-result : tie.Need-sub-result
 sub-result c = let k : c .args .target ≤ 10000000 = omega arith in rw (less _ _ (c .pre) k) (less-fits _ _ (c .pre) k)
 
@@ -18,4 +12,4 @@ returns : tie.Need-returns
 returns c = let k : c .args .target ≤ 10000000 = omega arith in rw (less _ _ (c .pre) k) (less-back _ _ (c .pre) k)
 
 pub standing-of-spec : {M : Type 1} → statement M
-standing-of-spec = tie.close (tie.spec cast-result cast-result-2 sub-result returns)
+standing-of-spec = tie.close (tie.spec (λ c. search needs) (λ c. search needs) sub-result returns)

@@ -4,9 +4,6 @@ use borrow.Author.Needs.{needs}
 use Rattle.search.proofs.turn_of.Statement.{statement}
 use Rattle.search.proofs.turn_of.Tie as tie
 
-cast-result : tie.Need-cast-result
-cast-result c = search needs
-
 returns : tie.Need-returns
 returns c = record { turn = search (lt-ltb, le-ltb); exit = omega arith }
 
@@ -17,4 +14,4 @@ returns-3 : tie.Need-returns-3
 returns-3 c = record { turn = search (lt-ltb, le-ltb); exit = omega arith }
 
 pub turn-of-spec : {M : Type 1} → statement M
-turn-of-spec = tie.close (tie.spec cast-result returns returns-2 returns-3)
+turn-of-spec = tie.close (tie.spec (λ c. search needs) returns returns-2 returns-3)

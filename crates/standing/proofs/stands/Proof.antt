@@ -1,51 +1,39 @@
-use Rattle.rules.proofs.Tests.{no, yes}
-use Rattle.rules.proofs.Standing.{limits-take}
-use Rattle.rules.specs.Standing.{stands}
-use borrow.Author.Tests.{le-leb, lt-leb}
 use borrow.Author.Needs.{needs}
+use Rattle.rules.specs.Standing.{stands}
+use Rattle.rules.proofs.Tests.{no, yes}
+use Rattle.standing.proofs.Limits.{lent-is, limits-are}
 use Rattle.standing.proofs.stands.Statement.{statement}
 use Rattle.standing.proofs.stands.Tie as tie
 
-within-limits-requires : tie.Need-within-limits-requires
-within-limits-requires c κs = search needs
-
 returns : tie.Need-returns
 unfolding stands
-returns c = rw (no (c .before .within-limits .ensures) (c .if1 .taken))
+returns c = rw (no (limits-are (c .before .before .before .before .args .s .now) (c .before .within-limits .ensures) (c .before .before .terms .ensures)) (c .if1 .taken))
+
+body-stands-requires : tie.Need-body-stands-requires
+body-stands-requires c κs =
+    let d = c .before in
+    let g = d .before .before .before .before in
+    lent-is (g .args .s .now) (g .pre)
+    (yes (limits-are (g .args .s .now) (d .before .within-limits .ensures) (d .before .before .terms .ensures)) (d .if1 .left))
 
 returns-2 : tie.Need-returns-2
 unfolding stands
 returns-2 c =
     let d = c .before .before in
-    rw (yes (d .before .within-limits .ensures) (d .if1 .left), lt-leb _ _ (c .if2 .taken))
-
-returns-3 : tie.Need-returns-3
-unfolding stands
-returns-3 c =
-    let e = c .before .before in
-    let d = e .before .before in
-    rw (yes (d .before .within-limits .ensures) (d .if1 .left), le-leb _ _ (e .if2 .left), lt-leb _ _ (c .if3 .taken))
-
-body-stands-requires : tie.Need-body-stands-requires
-body-stands-requires c κs =
-    let d = c .before .before .before .before in
-    let l = limits-take (d .before .before .before .args .a .terms) (yes (d .before .within-limits .ensures) (d .if1 .left)) in
-    record { products = l .products; bidders = l .bidders }
-
-returns-4 : tie.Need-returns-4
-unfolding stands
-returns-4 c =
-    let f = c .before in
-    let e = f .before .before in
-    let d = e .before .before in
+    let s = d .before .before .before .before .args .s .now in
     rw (
-      yes (d .before .within-limits .ensures) (d .if1 .left),
-      le-leb _ _ (e .if2 .left),
-      le-leb _ _ (f .if3 .left),
       c .body-stands .ensures,
+      c .before .round .ensures,
+      yes (limits-are s (d .before .within-limits .ensures) (d .before .before .terms .ensures)) (d .if1 .left),
     )
 
 pub stands-spec : {M : Type 1} → statement M
 stands-spec =
     tie.close
-    (tie.spec within-limits-requires returns returns-2 returns-3 body-stands-requires returns-4)
+    (tie.spec
+    (λ c κs. search needs)
+    (λ c κs. search needs)
+    returns
+    (λ c κs. search needs)
+    body-stands-requires
+    returns-2)

@@ -4,12 +4,13 @@ use Prim.Native.Nat.{_≤_, _-_}
 use borrow.Author.Needs.{needs}
 use Rattle.store.proofs.copy_state.Statement.{statement}
 use Rattle.store.proofs.copy_state.Tie as tie
+use Rattle.layout.specs.Sections.{stateLength}
 
 abbrev Inv-loop : tie.InvT-loop
-Inv-loop room state₀ i₀ state i = (i ≤ 3333) × (length state ≡ length state₀)
+Inv-loop room state₀ i₀ state i = (i ≤ stateLength) × (length state ≡ length state₀)
 
 abbrev μ-loop : tie.MeasureT-loop
-μ-loop room state₀ i₀ state i = 3333 - i
+μ-loop room state₀ i₀ state i = stateLength - i
 
 loop-holds : tie.Need-loop-holds Inv-loop μ-loop
 loop-holds c = search needs

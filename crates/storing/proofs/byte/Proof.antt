@@ -6,14 +6,8 @@ use borrow.Author.Needs.{needs}
 use Rattle.storing.proofs.byte.Statement.{statement}
 use Rattle.storing.proofs.byte.Tie as tie
 
-slice-write-s : tie.Need-slice-write-s
-slice-write-s c = search needs
-
-same-length : tie.Need-same-length
-same-length c = search needs
-
 returns : tie.Need-returns
 returns c = let e : c .args .x % 256 ≡ c .args .x = omega arith in rw e
 
 pub byte-spec : {M : Type 1} → statement M
-byte-spec = tie.close (tie.spec slice-write-s same-length returns)
+byte-spec = tie.close (tie.spec (λ c. search needs) (λ c. search needs) returns)

@@ -5,18 +5,6 @@ use borrow.Author.Needs.{needs}
 use Rattle.storing.proofs.pair.Statement.{statement}
 use Rattle.storing.proofs.pair.Tie as tie
 
-two-requires : tie.Need-two-requires
-two-requires c κs = search needs
-
-add-two : tie.Need-add-two
-add-two c = search needs
-
-two-requires-2 : tie.Need-two-requires-2
-two-requires-2 c κs = search needs
-
-same-length : tie.Need-same-length
-same-length c = search needs
-
 returns : tie.Need-returns
 returns c =
     let c₁ = c .before .before in
@@ -25,4 +13,4 @@ returns c =
     ∙ rw (c₂ .two .ensures) (simp towards-suc)
 
 pub pair-spec : {M : Type 1} → statement M
-pair-spec = tie.close (tie.spec two-requires add-two two-requires-2 same-length returns)
+pair-spec = tie.close (tie.spec (λ c κs. search needs) (λ c. search needs) (λ c κs. search needs) (λ c. search needs) returns)

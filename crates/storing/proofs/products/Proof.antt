@@ -1,65 +1,34 @@
 -- `storing::products` meets its contract. The parts passed are written. Assumes nothing.
-use mathlib.Core.Path.{refl}
-use Prim.Native.Nat.{_-_}
+use Prim.Native.Nat.{ℕ, _-_}
 use native.Mathlib.Omega.{arith}
+use Rattle.rules.specs.Settings.{startOf}
+use Rattle.rules.specs.Calls.{opened}
+use Rattle.rules.specs.Layout.{productBytes, productWidth, productsFrom}
+use Rattle.rules.proofs.Lists.{list-at}
+use Rattle.storing.proofs.Each.{Passed, none-passed, next-passed, all-passed}
 use borrow.Author.Needs.{needs}
-use Rattle.storing.specs.Parts.{productPart}
-use Rattle.storing.proofs.Runs.{Parts, no-part, next-part, all-parts}
 use Rattle.storing.proofs.products.Statement.{statement}
 use Rattle.storing.proofs.products.Tie as tie
 
 abbrev Inv-loop : tie.InvT-loop
-Inv-loop s₀ item price before i₀ s i = Parts (productPart item price before) 11 13 8 i s₀ s
+Inv-loop s₀ t p₀ s p = Passed (productBytes (opened t)) productsFrom productWidth 8 p s₀ s
 
 abbrev μ-loop : tie.MeasureT-loop
-μ-loop s₀ item price before i₀ s i = 8 - i
+μ-loop s₀ t p₀ s p = 8 - p
 
 loop-holds : tie.Need-loop-holds Inv-loop μ-loop
-loop-holds c = no-part
-
-mul-v : tie.Need-mul-v Inv-loop μ-loop
-mul-v c = search needs
-
-array-copy-out-v : tie.Need-array-copy-out-v Inv-loop μ-loop
-array-copy-out-v c = search needs
-
-mul-product : tie.Need-mul-product Inv-loop μ-loop
-mul-product c = search needs
-
-add-product : tie.Need-add-product Inv-loop μ-loop
-add-product c = search needs
-
-mul-product-2 : tie.Need-mul-product-2 Inv-loop μ-loop
-mul-product-2 c = search needs
-
-array-read-product : tie.Need-array-read-product Inv-loop μ-loop
-array-read-product c = search needs
-
-mul-product-3 : tie.Need-mul-product-3 Inv-loop μ-loop
-mul-product-3 c = search needs
-
-array-read-product-2 : tie.Need-array-read-product-2 Inv-loop μ-loop
-array-read-product-2 c = search needs
-
-product-requires : tie.Need-product-requires Inv-loop μ-loop
-product-requires c κs = search needs
-
-add-i : tie.Need-add-i Inv-loop μ-loop
-add-i c = search needs
-
-loop-less : tie.Need-loop-less Inv-loop μ-loop
-loop-less c = search needs
+loop-holds c = none-passed
 
 loop-again : tie.Need-loop-again Inv-loop μ-loop
+unfolding opened
 loop-again c =
     let d = c .before .before in
-    next-part (d .before .before .before .before .loop .inv) (omega arith) refl (d .product .ensures)
-
-same-length : tie.Need-same-length Inv-loop μ-loop
-same-length c = search needs
+    let l = d .before .before .before .before in
+    next-passed (l .loop .inv) (omega arith)
+    (rw (list-at {A = ℕ} (startOf (l .before .before .args .t2)) 0 8 (l .loop .p) (omega arith)) (d .product .ensures))
 
 returns : tie.Need-returns Inv-loop μ-loop
-returns c = all-parts (c .before .loop .inv) (omega arith)
+returns c = all-passed (c .before .loop .inv) (omega arith)
 
 pub products-spec : {M : Type 1} → statement M
 products-spec =
@@ -68,17 +37,13 @@ products-spec =
     Inv-loop
     μ-loop
     loop-holds
-    mul-v
-    array-copy-out-v
-    mul-product
-    add-product
-    mul-product-2
-    array-read-product
-    mul-product-3
-    array-read-product-2
-    product-requires
-    add-i
-    loop-less
+    (λ c. search needs)
+    (λ c. search needs)
+    (λ c. search needs)
+    (λ c. search needs)
+    (λ c κs. search needs)
+    (λ c. search needs)
+    (λ c. search needs)
     loop-again
-    same-length
+    (λ c. search needs)
     returns)

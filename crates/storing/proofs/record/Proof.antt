@@ -5,30 +5,6 @@ use borrow.Author.Needs.{needs}
 use Rattle.storing.proofs.record.Statement.{statement}
 use Rattle.storing.proofs.record.Tie as tie
 
-one-requires : tie.Need-one-requires
-one-requires c κs = search needs
-
-add-one : tie.Need-add-one
-add-one c = search needs
-
-one-requires-2 : tie.Need-one-requires-2
-one-requires-2 c κs = search needs
-
-add-one-2 : tie.Need-add-one-2
-add-one-2 c = search needs
-
-one-requires-3 : tie.Need-one-requires-3
-one-requires-3 c κs = search needs
-
-add-three : tie.Need-add-three
-add-three c = search needs
-
-three-requires : tie.Need-three-requires
-three-requires c κs = search needs
-
-same-length : tie.Need-same-length
-same-length c = search needs
-
 returns : tie.Need-returns
 returns c =
     let c₁ = c .before .before in
@@ -42,12 +18,12 @@ pub record-spec : {M : Type 1} → statement M
 record-spec =
     tie.close
     (tie.spec
-    one-requires
-    add-one
-    one-requires-2
-    add-one-2
-    one-requires-3
-    add-three
-    three-requires
-    same-length
+    (λ c κs. search needs)
+    (λ c. search needs)
+    (λ c κs. search needs)
+    (λ c. search needs)
+    (λ c κs. search needs)
+    (λ c. search needs)
+    (λ c κs. search needs)
+    (λ c. search needs)
     returns)

@@ -1,53 +1,33 @@
 -- `storing::records` meets its contract. The parts passed are written. Assumes nothing.
-use mathlib.Core.Path.{refl}
+use mathlib.Core.Path.{_∙_}
 use Prim.Native.Nat.{_-_}
 use native.Mathlib.Omega.{arith}
+use Rattle.rules.specs.Accept.{placeAt}
+use Rattle.rules.specs.Layout.{recordBytes, recordWidth, recordsFrom}
+use Rattle.table.specs.Rows.{placesIn}
+use Rattle.storing.proofs.Each.{Passed, none-passed, next-passed, all-passed}
+use Rattle.storing.proofs.Sections.{records-written}
 use borrow.Author.Needs.{needs}
-use Rattle.storing.specs.Parts.{recordPart}
-use Rattle.storing.proofs.Runs.{Parts, no-part, next-part, all-parts}
 use Rattle.storing.proofs.records.Statement.{statement}
 use Rattle.storing.proofs.records.Tie as tie
+use Rattle.table.proofs.record.Reads as record-reads′
 
 abbrev Inv-loop : tie.InvT-loop
-Inv-loop s₀ list i₀ s i = Parts (recordPart list) 6 261 256 i s₀ s
+Inv-loop s₀ ps k₀ s k = Passed (λ i. recordBytes (placeAt (placesIn ps) i .holds)) recordsFrom recordWidth 256 k s₀ s
 
 abbrev μ-loop : tie.MeasureT-loop
-μ-loop s₀ list i₀ s i = 256 - i
+μ-loop s₀ ps k₀ s k = 256 - k
 
 loop-holds : tie.Need-loop-holds Inv-loop μ-loop
-loop-holds c = no-part
-
-mul-v : tie.Need-mul-v Inv-loop μ-loop
-mul-v c = search needs
-
-array-copy-out-v : tie.Need-array-copy-out-v Inv-loop μ-loop
-array-copy-out-v c = search needs
-
-mul-record : tie.Need-mul-record Inv-loop μ-loop
-mul-record c = search needs
-
-add-record : tie.Need-add-record Inv-loop μ-loop
-add-record c = search needs
-
-record-requires : tie.Need-record-requires Inv-loop μ-loop
-record-requires c κs = search needs
-
-add-i : tie.Need-add-i Inv-loop μ-loop
-add-i c = search needs
-
-loop-less : tie.Need-loop-less Inv-loop μ-loop
-loop-less c = search needs
+loop-holds c = none-passed
 
 loop-again : tie.Need-loop-again Inv-loop μ-loop
 loop-again c =
     let d = c .before .before in
-    next-part (d .before .before .before .before .loop .inv) (omega arith) refl (d .record .ensures)
-
-same-length : tie.Need-same-length Inv-loop μ-loop
-same-length c = search needs
+    next-passed (d .before .before .before .before .loop .inv) (omega arith) (rw (d .before .before .record .ensures) at (d .record2 .ensures))
 
 returns : tie.Need-returns Inv-loop μ-loop
-returns c = all-parts (c .before .loop .inv) (omega arith)
+returns c = λ a e. all-passed (c .before .loop .inv) (omega arith) ∙ rw e (records-written a (placesIn (c .before .before .before .args .ps .now)))
 
 pub records-spec : {M : Type 1} → statement M
 records-spec =
@@ -56,13 +36,12 @@ records-spec =
     Inv-loop
     μ-loop
     loop-holds
-    mul-v
-    array-copy-out-v
-    mul-record
-    add-record
-    record-requires
-    add-i
-    loop-less
+    (λ c κs. search needs)
+    (λ c. search needs)
+    (λ c. search needs)
+    (λ c κs. search needs)
+    (λ c. search needs)
+    (λ c. search needs)
     loop-again
-    same-length
+    (λ c. search needs)
     returns)

@@ -6,27 +6,12 @@ use lib.ListN.{length-set}
 use Rattle.storing.proofs.two.Statement.{statement}
 use Rattle.storing.proofs.two.Tie as tie
 
-cast-s : tie.Need-cast-s
-cast-s c = search needs
-
-slice-write-s : tie.Need-slice-write-s
-slice-write-s c = search needs
-
-cast-s-2 : tie.Need-cast-s-2
-cast-s-2 c = search needs
-
-add-s : tie.Need-add-s
-add-s c = search needs
-
 slice-write-s-2 : tie.Need-slice-write-s-2
 slice-write-s-2 c = simp length-set (omega arith)
-
-same-length : tie.Need-same-length
-same-length c = search needs
 
 returns : tie.Need-returns
 returns c = simp towards-suc
 
 pub two-spec : {M : Type 1} → statement M
 two-spec =
-    tie.close (tie.spec cast-s slice-write-s cast-s-2 add-s slice-write-s-2 same-length returns)
+    tie.close (tie.spec (λ c. search needs) (λ c. search needs) (λ c. search needs) (λ c. search needs) slice-write-s-2 (λ c. search needs) returns)

@@ -1,0 +1,55 @@
+use borrow.Author.Needs.{needs}
+use Prim.Native.Nat.{_-_}
+use native.Mathlib.Omega.{arith}
+use Rattle.rules.proofs.Fill.{Filled, none-filled, one-more, all-filled}
+use Rattle.rules.specs.Layout.{loaded}
+use Rattle.book.proofs.Loaded.{rows-are}
+use mathlib.Core.Path.{_∙_, ap₂}
+use Rattle.rules.specs.Settings.{row, percentOf, decrementOf}
+use Rattle.book.proofs.decrements.Statement.{statement}
+use Rattle.book.proofs.decrements.Tie as tie
+
+abbrev Inv-loop : tie.InvT-loop
+Inv-loop s all₀ i₀ all i = Filled (λ i. row (percentOf (loaded s .terms) i) (decrementOf (loaded s .terms) i)) 8 i all
+
+abbrev μ-loop : tie.MeasureT-loop
+μ-loop s all₀ i₀ all i = 8 - i
+
+loop-holds : tie.Need-loop-holds Inv-loop μ-loop
+loop-holds c = none-filled _ (search needs)
+
+row-requires : tie.Need-row-requires Inv-loop μ-loop
+row-requires c κs = search needs
+
+mul-all : tie.Need-mul-all Inv-loop μ-loop
+mul-all c = search needs
+
+array-set-from-all : tie.Need-array-set-from-all Inv-loop μ-loop
+array-set-from-all c = search needs
+
+add-i : tie.Need-add-i Inv-loop μ-loop
+add-i c = search needs
+
+loop-less : tie.Need-loop-less Inv-loop μ-loop
+loop-less c = search needs
+
+loop-again : tie.Need-loop-again Inv-loop μ-loop
+loop-again c = one-more _ (c .before .before .loop .inv) (omega arith) (ap₂ row (c .row .ensures .0) (c .row .ensures .1))
+
+returns : tie.Need-returns Inv-loop μ-loop
+returns c = all-filled (c .before .loop .inv) (omega arith) ∙ rows-are (c .before .before .before .args .s .now)
+
+pub decrements-spec : {M : Type 1} → statement M
+decrements-spec =
+    tie.close
+    (tie.spec
+    Inv-loop
+    μ-loop
+    loop-holds
+    row-requires
+    mul-all
+    array-set-from-all
+    add-i
+    loop-less
+    loop-again
+    returns)

@@ -1,0 +1,67 @@
+use borrow.Author.Needs.{needs}
+use Prim.Native.Nat.{_-_}
+use native.Mathlib.Omega.{arith}
+use Rattle.rules.proofs.Fill.{Filled, none-filled, one-more, all-filled}
+use Rattle.rules.specs.Layout.{loaded}
+use Rattle.book.proofs.Loaded.{items-are}
+use mathlib.Core.Path.{_∙_}
+use Rattle.rules.specs.Settings.{item, targetOf, capOf, startOf}
+use Rattle.book.proofs.items.Statement.{statement}
+use Rattle.book.proofs.items.Tie as tie
+
+abbrev Inv-loop : tie.InvT-loop
+Inv-loop s all₀ p₀ all p = Filled (λ p. item (targetOf (loaded s .terms) p) (capOf (loaded s .terms) p) (startOf (loaded s .terms) p)) 8 p all
+
+abbrev μ-loop : tie.MeasureT-loop
+μ-loop s all₀ p₀ all p = 8 - p
+
+loop-holds : tie.Need-loop-holds Inv-loop μ-loop
+loop-holds c = none-filled _ (search needs)
+
+start-requires : tie.Need-start-requires Inv-loop μ-loop
+start-requires c κs = search needs
+
+target-requires : tie.Need-target-requires Inv-loop μ-loop
+target-requires c κs = search needs
+
+cap-requires : tie.Need-cap-requires Inv-loop μ-loop
+cap-requires c κs = search needs
+
+amount-requires : tie.Need-amount-requires Inv-loop μ-loop
+amount-requires c κs = search needs
+
+mul-all : tie.Need-mul-all Inv-loop μ-loop
+mul-all c = search needs
+
+array-set-from-all : tie.Need-array-set-from-all Inv-loop μ-loop
+array-set-from-all c = search needs
+
+add-p : tie.Need-add-p Inv-loop μ-loop
+add-p c = search needs
+
+loop-less : tie.Need-loop-less Inv-loop μ-loop
+loop-less c = search needs
+
+loop-again : tie.Need-loop-again Inv-loop μ-loop
+loop-again c = one-more _ (c .before .before .before .before .before .loop .inv) (omega arith) (rw (c .before .before .target .ensures, c .before .cap .ensures, c .amount .ensures, c .before .before .before .start .ensures .1))
+
+returns : tie.Need-returns Inv-loop μ-loop
+returns c = all-filled (c .before .loop .inv) (omega arith) ∙ items-are (c .before .before .before .args .s .now)
+
+pub items-spec : {M : Type 1} → statement M
+items-spec =
+    tie.close
+    (tie.spec
+    Inv-loop
+    μ-loop
+    loop-holds
+    start-requires
+    target-requires
+    cap-requires
+    amount-requires
+    mul-all
+    array-set-from-all
+    add-p
+    loop-less
+    loop-again
+    returns)

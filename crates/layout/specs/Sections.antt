@@ -1,0 +1,44 @@
+-- The sections of the state's bytes: a head, 8 products, 32 bidders, 8 decrement rows, 256 records and 256 bid lines, one after the other.
+-- What an entry's bytes say is in the crate rules, specs/Layout.antt. Assumes nothing.
+use Prim.Native.Nat.{ℕ, _+_, _*_}
+
+-- ---- how many bytes an entry has
+
+abbrev pub headWidth : ℕ
+headWidth = 13
+
+abbrev pub productWidth : ℕ
+productWidth = 11
+
+abbrev pub bidderWidth : ℕ
+bidderWidth = 4
+
+abbrev pub rowWidth : ℕ
+rowWidth = 4
+
+abbrev pub recordWidth : ℕ
+recordWidth = 6
+
+abbrev pub lineWidth : ℕ
+lineWidth = 6
+
+-- ---- where each section begins
+
+abbrev pub productsFrom : ℕ
+productsFrom = headWidth
+
+abbrev pub biddersFrom : ℕ
+biddersFrom = productsFrom + 8 * productWidth
+
+abbrev pub rowsFrom : ℕ
+rowsFrom = biddersFrom + 32 * bidderWidth
+
+abbrev pub recordsFrom : ℕ
+recordsFrom = rowsFrom + 8 * rowWidth
+
+abbrev pub bidsFrom : ℕ
+bidsFrom = recordsFrom + 256 * recordWidth
+
+-- "The state is lent bytes of one fixed length, at most 8,192"
+abbrev pub stateLength : ℕ
+stateLength = bidsFrom + 256 * lineWidth

@@ -1,0 +1,66 @@
+// Where each number of the state stands in its bytes: every place follows from the one before it and that one's width, so that a new
+// field is one line here. The definitions say the same in the crate rules, specs/Layout.antt; whatever reads or writes the bytes is
+// proved against those.
+
+// ---- The head
+
+pub const PHASE: usize = 0;
+
+pub const UNIT: usize = PHASE + 1;
+
+pub const PRODUCTS: usize = UNIT + 1;
+
+pub const BIDDERS: usize = PRODUCTS + 1;
+
+pub const ROWS: usize = BIDDERS + 1;
+
+pub const ROUND: usize = ROWS + 1;
+
+pub const STATEWIDE: usize = ROUND + 2;
+
+pub const FILED: usize = STATEWIDE + 2;
+
+// ---- 8 products, of the first its fields: p products on each is LANE times p further
+
+pub const TARGET: usize = FILED + 4;
+
+pub const CAP: usize = TARGET + 1;
+
+pub const START: usize = CAP + 1;
+
+pub const PRICE: usize = START + 3;
+
+pub const BEFORE: usize = PRICE + 3;
+
+pub const LANE: usize = BEFORE + 3 - TARGET;
+
+// ---- 32 bidders
+
+pub const INITIAL: usize = TARGET + 8 * LANE;
+
+pub const FREE: usize = INITIAL + 2;
+
+pub const SEAT: usize = FREE + 2 - INITIAL;
+
+// ---- 8 decrement rows
+
+pub const PERCENT: usize = INITIAL + 32 * SEAT;
+
+pub const DECREMENT: usize = PERCENT + 2;
+
+pub const ROW: usize = DECREMENT + 2 - PERCENT;
+
+// ---- 256 records: g, d, r, and the exit price
+
+pub const RECORDS: usize = PERCENT + 8 * ROW;
+
+pub const RECORD: usize = 1 + 1 + 1 + 3;
+
+// ---- 256 bid lines: tranches, withdrawn, the exit price, and the priority
+
+pub const BIDS: usize = RECORDS + 256 * RECORD;
+
+pub const LINE: usize = 1 + 1 + 3 + 1;
+
+// The state's length.
+pub const STATE: usize = BIDS + 256 * LINE;

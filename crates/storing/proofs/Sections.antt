@@ -1,0 +1,242 @@
+-- The state with one section written over. Assumes nothing.
+use mathlib.Core.Path.{_≡_, refl, sym, _∙_, ap, ap₂}
+use mathlib.Core.List.{List, [], _++_, append-nil, append-assoc}
+use Prim.Native.Nat.{ℕ, zero, suc, _+_, _*_, _-_, _≤_, _<_}
+use native.Mathlib.Omega.{arith}
+use lib.ListN.{length, getD, take, drop, replicate, length-append, length-drop, length-replicate, take-append-drop, drop-of-length-le, getD-replicate, replicate-append-replicate}
+use lib.Seq.{sets, sets-eq, length-take-le, take-add}
+use Rattle.rules.specs.declared.Tranches.{Tranches}
+use Rattle.rules.specs.declared.Quote.{Quote}
+use Rattle.rules.specs.declared.Line.{Line}
+use Rattle.rules.specs.declared.Terms.{Terms}
+use Rattle.rules.specs.declared.Auction.{Auction}
+use Rattle.rules.specs.declared.Place.{Place}
+use Rattle.rules.specs.Count.{from}
+use Rattle.rules.specs.Units.{tranches}
+use Rattle.rules.specs.Card.{noLine}
+use Rattle.rules.specs.Settings.{item, noItem, startOf}
+use Rattle.rules.specs.Held.{recordAt, nothing}
+use Rattle.rules.specs.Accept.{placeAt}
+use Rattle.rules.specs.Cutback.{givenFor, revised}
+use Rattle.rules.specs.Calls.{opened}
+use Rattle.rules.specs.Layout.{stateLength, byte1, bytes2, bytes3, bytes4, bytesUpTo, headBytes, productBytes, bidderBytes, rowBytes, recordBytes, lineBytes, stored, headWidth, productWidth, bidderWidth, rowWidth, recordWidth, lineWidth, productsFrom, biddersFrom, rowsFrom, recordsFrom, bidsFrom}
+use Rattle.rules.proofs.Lists.{list-at}
+use Rattle.rules.proofs.Storing.{parts-long}
+use Rattle.storing.specs.Written.{withPhase, withRound, withFiled, withPrices, withFree, withRecords, withBids, withSlot, withoutLines, withLimits, amountAt, amounts, recordsIn, each}
+use Rattle.storing.proofs.Each.{section, parts-append}
+
+-- ---- the head
+
+module _ (a : Auction) (x : ℕ) where
+  pub phase-written : sets (stored a) 0 (byte1 x) ≡ stored (withPhase a x)
+  unfolding stored
+  phase-written = refl
+
+  pub round-written : sets (stored a) 5 (bytes2 x) ≡ stored (withRound a x)
+  unfolding stored
+  round-written = refl
+
+  pub filed-written : sets (stored a) 9 (bytes4 x) ≡ stored (withFiled a x)
+  unfolding stored
+  filed-written = refl
+
+-- ---- where a section stands: what is before it, and what is after it
+
+longer : (x : List ℕ) (part : ℕ → List ℕ) (w m n : ℕ) → ((k : ℕ) → length (part k) ≡ w) → length x ≡ m
+    → length (x ++ bytesUpTo part n) ≡ m + n * w
+longer x part w m n wide e = length-append x (bytesUpTo part n) ∙ ap₂ _+_ e (parts-long part w wide n)
+
+-- six sections, split before and after one of them
+module _ (h p b r e l : List ℕ) where
+  at-products : h ++ p ++ b ++ r ++ e ++ l ≡ h ++ (p ++ (b ++ r ++ e ++ l))
+  at-products = simp append-assoc
+
+  at-bidders : h ++ p ++ b ++ r ++ e ++ l ≡ h ++ p ++ (b ++ (r ++ e ++ l))
+  at-bidders = simp append-assoc
+
+module _ (a : Auction) where
+  abbrev toProducts : List ℕ
+  toProducts = headBytes a ++ bytesUpTo (productBytes a) 8
+
+  abbrev toBidders : List ℕ
+  toBidders = toProducts ++ bytesUpTo (bidderBytes a) 32
+
+  abbrev toRows : List ℕ
+  toRows = toBidders ++ bytesUpTo (rowBytes a) 8
+
+  abbrev recordsPart : List ℕ
+  recordsPart = bytesUpTo (λ k. recordBytes (recordAt (a .records) k)) 256
+
+  abbrev linesPart : List ℕ
+  linesPart = bytesUpTo (λ k. lineBytes (getD (a .bids) k noLine)) 256
+
+  products-long : length toProducts ≡ biddersFrom
+  products-long = longer (headBytes a) (productBytes a) productWidth productsFrom 8 (λ k. refl) refl
+
+  bidders-long : length toBidders ≡ rowsFrom
+  bidders-long = longer toProducts (bidderBytes a) bidderWidth biddersFrom 32 (λ k. refl) products-long
+
+  rows-long : length toRows ≡ recordsFrom
+  rows-long = longer toBidders (rowBytes a) rowWidth rowsFrom 8 (λ k. refl) bidders-long
+
+  records-long : length (toRows ++ recordsPart) ≡ bidsFrom
+  records-long = longer toRows (λ k. recordBytes (recordAt (a .records) k)) recordWidth recordsFrom 256 (λ k. refl) rows-long
+
+  products-in : stored a
+      ≡ headBytes a ++ (bytesUpTo (productBytes a) 8 ++ (bytesUpTo (bidderBytes a) 32 ++ bytesUpTo (rowBytes a) 8 ++ recordsPart ++ linesPart))
+  unfolding stored
+  products-in =
+      at-products (headBytes a) (bytesUpTo (productBytes a) 8) (bytesUpTo (bidderBytes a) 32) (bytesUpTo (rowBytes a) 8) recordsPart linesPart
+
+  bidders-in : stored a ≡ toProducts ++ (bytesUpTo (bidderBytes a) 32 ++ (bytesUpTo (rowBytes a) 8 ++ recordsPart ++ linesPart))
+  unfolding stored
+  bidders-in =
+      at-bidders (headBytes a) (bytesUpTo (productBytes a) 8) (bytesUpTo (bidderBytes a) 32) (bytesUpTo (rowBytes a) 8) recordsPart linesPart
+
+  records-in : stored a ≡ toRows ++ (recordsPart ++ linesPart)
+  unfolding stored
+  records-in = append-assoc toRows recordsPart linesPart
+
+  lines-in : stored a ≡ toRows ++ recordsPart ++ (linesPart ++ [])
+  unfolding stored
+  lines-in = ap (λ l. toRows ++ recordsPart ++ l) (sym (append-nil linesPart))
+
+-- ---- one section anew
+
+module _ (a : Auction) where
+  pub free-written : (fs : List Tranches) → each (λ b. bytes2 (getD fs b (tranches 0) .0)) (biddersFrom + 2) bidderWidth 32 (stored a) ≡ stored (withFree a fs)
+  free-written fs =
+      let z = withFree a fs in
+      section (bidderBytes a) (bidderBytes z) (λ b. bytes2 (getD fs b (tranches 0) .0)) 4 2 32 (λ i. refl) (λ i. refl)
+      (λ i. omega arith) (λ i h. refl) (toProducts a) (biddersFrom + 2) (omega (arith, products-long a)) _ (bidders-in a) (bidders-in z)
+
+  pub prices-written : (ps qs : List Quote)
+      → each (λ p. bytes3 (amountAt ps p) ++ bytes3 (amountAt qs p)) (productsFrom + 5) productWidth 8 (stored a) ≡ stored (withPrices a (amounts ps) (amounts qs))
+  prices-written ps qs =
+      let z = withPrices a (amounts ps) (amounts qs) in
+      section (productBytes a) (productBytes z) _ 11 5 8 (λ i. refl) (λ i. refl) (λ i. omega arith)
+      (λ i h. rw (list-at {A = ℕ} (amountAt ps) 0 8 i h, list-at {A = ℕ} (amountAt qs) 0 8 i h))
+      (headBytes a) 18 refl _ (products-in a) (products-in z)
+
+  pub limits-written : (ts cs : List Tranches)
+      → each (λ p. byte1 (givenFor ts p) ++ byte1 (givenFor cs p)) productsFrom productWidth 8 (stored a) ≡ stored (withLimits a ts cs)
+  unfolding revised from
+  limits-written ts cs =
+      let z = withLimits a ts cs in
+      section (productBytes a) (productBytes z) _ 11 0 8 (λ i. refl) (λ i. refl) (λ i. omega arith)
+      (λ i h. rw (list-at (λ p. item (givenFor ts p) (givenFor cs p) (startOf (a .terms) p)) noItem 8 i h))
+      (headBytes a) 13 refl _ (products-in a) (products-in z)
+
+  pub records-written : (ps : List Place)
+      → each (λ k. recordBytes (placeAt ps k .holds)) recordsFrom recordWidth 256 (stored a) ≡ stored (withRecords a (recordsIn ps))
+  records-written ps =
+      let z = withRecords a (recordsIn ps) in
+      section (λ k. recordBytes (recordAt (a .records) k)) (λ k. recordBytes (recordAt (z .records) k)) _ 6 0 256 (λ i. refl) (λ i. refl)
+      (λ i. omega arith) (λ i h. rw (list-at _ nothing 256 i h)) (toRows a) recordsFrom (omega (arith, rows-long a)) _ (records-in a) (records-in z)
+
+  pub lines-gone : each (λ k. lineBytes noLine) bidsFrom lineWidth 256 (stored a) ≡ stored (withoutLines a)
+  lines-gone =
+      let z = withoutLines a in
+      section (λ k. lineBytes (getD (a .bids) k noLine)) (λ k. lineBytes (getD (z .bids) k noLine)) _ 6 0 256 (λ i. refl) (λ i. refl)
+      (λ i. omega arith) (λ i h. rw (getD-replicate 256 i noLine noLine h)) (toRows a ++ recordsPart a) bidsFrom (omega (arith, records-long a)) []
+      (lines-in a) (lines-in z)
+
+-- ---- a slot
+
+-- eight lines between those before and those after
+module _ (a : Auction) (u v x w : List Line) (m n : ℕ) (before : length u ≡ m) (old : length v ≡ 8) (new : length x ≡ 8)
+    (all : m + 8 + n ≡ 256) where
+  abbrev part : List Line → ℕ → List ℕ
+  part ls k = lineBytes (getD ls k noLine)
+
+  split : (y : List Line) → length y ≡ 8
+      → bytesUpTo (part (u ++ y ++ w)) 256 ≡ bytesUpTo (part u) m ++ (bytesUpTo (part y) 8 ++ bytesUpTo (part w) n)
+  split y e =
+      rw (← all)
+      (parts-append (λ l. lineBytes l) noLine (u ++ y) w (m + 8) n (omega (arith, length-append u y))
+      ∙ ap (λ t. t ++ bytesUpTo (part w) n) (parts-append (λ l. lineBytes l) noLine u y m 8 before)
+      ∙ append-assoc (bytesUpTo (part u) m) (bytesUpTo (part y) 8) (bytesUpTo (part w) n))
+
+  abbrev front : List ℕ
+  front = toRows a ++ recordsPart a
+
+  stands : (y : List Line) → length y ≡ 8
+      → stored (withBids a (u ++ y ++ w)) ≡ front ++ bytesUpTo (part u) m ++ (bytesUpTo (part y) 8 ++ bytesUpTo (part w) n)
+  unfolding stored
+  stands y e =
+      ap (λ t. front ++ t) (split y e) ∙ sym (append-assoc front (bytesUpTo (part u) m) (bytesUpTo (part y) 8 ++ bytesUpTo (part w) n))
+
+  middle : each (part x) (m * lineWidth + bidsFrom) lineWidth 8 (stored (withBids a (u ++ v ++ w))) ≡ stored (withBids a (u ++ x ++ w))
+  middle =
+      section (part v) (part x) (part x) 6 0 8 (λ i. refl) (λ i. refl) (λ i. omega arith) (λ i h. refl)
+      (front ++ bytesUpTo (part u) m) (m * lineWidth + bidsFrom) (omega (arith, longer front (part u) lineWidth bidsFrom m (λ k. refl) (records-long a)))
+      (bytesUpTo (part w) n) (stands v old) (stands x new)
+
+pub slot-written : (a : Auction) (b : ℕ) (ls : List Line) → b < 32 → length ls ≡ 8 → length (a .bids) ≡ 256
+    → each (λ p. lineBytes (getD ls p noLine)) (b * 8 * lineWidth + bidsFrom) lineWidth 8 (stored a) ≡ stored (withSlot a b ls)
+slot-written a b ls h e l =
+    let m = b * 8 in
+    let u = take m (a .bids) in
+    let v = take 8 (drop m (a .bids)) in
+    let w = drop (m + 8) (a .bids) in
+    let p : a .bids ≡ u ++ v ++ w = sym (take-append-drop (m + 8) (a .bids)) ∙ ap (λ x. x ++ w) (take-add m 8 (a .bids)) in
+    let q : sets (a .bids) m ls ≡ u ++ ls ++ w = sets-eq ls (a .bids) m (omega arith) ∙ ap (λ k. u ++ ls ++ drop (m + k) (a .bids)) e in
+    ap (λ x. each (λ p. lineBytes (getD ls p noLine)) (m * lineWidth + bidsFrom) lineWidth 8 (stored (withBids a x))) p
+    ∙ middle a u v ls w m (256 - (m + 8)) (length-take-le m (a .bids) (omega arith))
+    (length-take-le 8 (drop m (a .bids)) (simp length-drop (omega arith))) e (omega arith)
+    ∙ ap (λ x. stored (withBids a x)) (sym q)
+
+-- ---- an auction opened on bytes that are all zero
+
+pub zero-long : {s : List ℕ} → s ≡ replicate stateLength 0 → length s ≡ stateLength
+zero-long e = ap length e ∙ length-replicate {A = ℕ} stateLength 0
+
+zeros-are : (part : ℕ → List ℕ) (w n : ℕ) → ((k : ℕ) → k < n → part k ≡ replicate w 0) → bytesUpTo part n ≡ replicate (n * w) 0
+unfolding bytesUpTo
+zeros-are part w zero h = let e : 0 * w ≡ 0 = omega arith in rw e
+zeros-are part w (suc n) h =
+    let e : suc n * w ≡ n * w + w = omega arith in
+    rw e (ap₂ _++_ (zeros-are part w n (λ k l. h k (omega arith))) (h n (omega arith)) ∙ replicate-append-replicate (n * w) w 0)
+
+over : (w : ℕ) (vs : List ℕ) → length vs ≡ w → sets (replicate w 0) 0 vs ≡ vs
+over w vs e =
+    let z : List ℕ = replicate w 0 in
+    let h : length z ≤ 0 + length vs = omega (arith, length-replicate {A = ℕ} w 0) in
+    sets-eq vs z 0 (omega (arith, length-replicate {A = ℕ} w 0)) ∙ rw drop-of-length-le (append-nil vs)
+
+-- parts written behind x, where m zeros are left
+onto : (part : ℕ → List ℕ) (w : ℕ) → ((k : ℕ) → length (part k) ≡ w) → (x : List ℕ) (k n m : ℕ) → length x ≡ k
+    → each part k w n (x ++ replicate (n * w + m) 0) ≡ x ++ bytesUpTo part n ++ replicate m 0
+onto part w wide x k n m e =
+    section (λ i. replicate w 0) part part w 0 n (λ i. length-replicate w 0) wide (λ i. omega (arith, wide i))
+    (λ i h. over w (part i) (wide i)) x k (omega arith) (replicate m 0)
+    (ap (λ z. x ++ z) (
+    sym (replicate-append-replicate (n * w) m 0) ∙ ap (λ z. z ++ replicate m 0) (sym (zeros-are (λ i. replicate w 0) w n (λ i h. refl)))))
+    (append-assoc x (bytesUpTo part n) (replicate m 0))
+
+-- the head is the first of them
+first : (h : List ℕ) → length h ≡ headWidth → sets (replicate stateLength 0) 0 h ≡ h ++ replicate (stateLength - headWidth) 0
+unfolding each bytesUpTo
+first h e = onto (λ k. h) headWidth (λ k. e) [] 0 1 (stateLength - headWidth) refl
+
+module _ (t : Terms) where
+  no-records : recordsPart (opened t) ≡ replicate (256 * recordWidth) 0
+  unfolding opened
+  no-records = zeros-are _ 6 256 (λ k h. ap (λ r. recordBytes r) (getD-replicate 256 k nothing nothing h))
+
+  no-lines : linesPart (opened t) ≡ replicate (256 * lineWidth) 0
+  unfolding opened
+  no-lines = zeros-are _ 6 256 (λ k h. ap (λ l. lineBytes l) (getD-replicate 256 k noLine noLine h))
+
+  pub opened-written : {s s₁ s₂ s₃ s₄ : List ℕ} → s ≡ replicate stateLength 0 → s₁ ≡ sets s 0 (headBytes (opened t))
+      → s₂ ≡ each (productBytes (opened t)) productsFrom productWidth 8 s₁ → s₃ ≡ each (bidderBytes (opened t)) biddersFrom bidderWidth 32 s₂
+      → s₄ ≡ each (rowBytes (opened t)) rowsFrom rowWidth 8 s₃ → s₄ ≡ stored (opened t)
+  unfolding stored
+  opened-written e e₁ e₂ e₃ e₄ =
+      let o = opened t in
+      let f₁ = e₁ ∙ ap (λ s. sets s 0 (headBytes o)) e ∙ first (headBytes o) refl in
+      let f₂ = e₂ ∙ ap (each (productBytes o) productsFrom productWidth 8) f₁ ∙ onto (productBytes o) 11 (λ k. refl) (headBytes o) 13 8 (stateLength - biddersFrom) refl in
+      let f₃ = e₃ ∙ ap (each (bidderBytes o) biddersFrom bidderWidth 32) f₂ ∙ onto (bidderBytes o) 4 (λ k. refl) (toProducts o) biddersFrom 32 (stateLength - rowsFrom) (products-long o) in
+      let f₄ = e₄ ∙ ap (each (rowBytes o) rowsFrom rowWidth 8) f₃ ∙ onto (rowBytes o) 4 (λ k. refl) (toBidders o) rowsFrom 8 (stateLength - recordsFrom) (bidders-long o) in
+      f₄ ∙ ap (λ z. toRows o ++ z) (sym (ap₂ _++_ no-records no-lines ∙ replicate-append-replicate (256 * recordWidth) (256 * lineWidth) 0))
+      ∙ sym (append-assoc (toRows o) (recordsPart o) (linesPart o))

@@ -1,0 +1,45 @@
+-- A table of rows read and written as a list of places. Assumes nothing.
+use mathlib.Core.Path.{_≡_, refl, sym, ap, _∙_}
+use mathlib.Core.List.{List, [], _∷_, map}
+use Prim.Native.Nat.{ℕ, zero, suc, _%_, _<_}
+use native.Mathlib.Nat.{mod-eq-of-lt}
+use lib.ListN.{length, getD, set, List·getD-map}
+use Rattle.rules.specs.declared.Place.{Place}
+use Rattle.rules.specs.Held.{goingIn, deniedIn, retainedIn, exitIn}
+use Rattle.rules.specs.Accept.{placeAt, leavingOf, leavingAt, movingOf, riseOf}
+use Rattle.table.specs.Rows.{placeIn, placesIn}
+
+map-set : {A B : Type 0} (f : A → B) (l : List A) (i : ℕ) (a : A) → map f (set l i a) ≡ set (map f l) i (f a)
+map-set f [] i a = refl
+map-set f (x ∷ xs) zero a = refl
+map-set f (x ∷ xs) (suc i) a = ap (λ z. f x ∷ z) (map-set f xs i a)
+
+-- the numbers of a place
+abbrev pub numbersOf : Place → List ℕ
+numbersOf l =
+    goingIn (l .holds) ∷ deniedIn (l .holds) ∷ retainedIn (l .holds) ∷ exitIn (l .holds) ∷ leavingOf l ∷ leavingAt l ∷ movingOf l
+    ∷ riseOf l ∷ l .priority ∷ []
+
+-- they give the place back, since each has the bits of its field
+pub same :
+    (l : Place) → goingIn (l .holds) < 65536 → deniedIn (l .holds) < 65536 → retainedIn (l .holds) < 65536 → leavingOf l < 65536
+    → movingOf l < 65536 → riseOf l < 65536 → l .priority < 256 → placeIn (numbersOf l) ≡ l
+same l g d r n s i k =
+    rw (mod-eq-of-lt g, mod-eq-of-lt d, mod-eq-of-lt r, mod-eq-of-lt n, mod-eq-of-lt s, mod-eq-of-lt i, mod-eq-of-lt k)
+
+pub read-at : (rows : List (List ℕ)) (k : ℕ) → placeIn (getD rows k []) ≡ placeAt (placesIn rows) k
+unfolding placesIn
+read-at rows k = sym (List·getD-map placeIn rows k _)
+
+pub set-at : (rows : List (List ℕ)) (k : ℕ) (x : List ℕ) (l : Place) → placeIn x ≡ l
+    → placesIn (set rows k x) ≡ set (placesIn rows) k l
+unfolding placesIn
+set-at rows k x l e = rw (map-set placeIn rows k x, e)
+
+map-long : {A B : Type 0} (f : A → B) (l : List A) → length (map f l) ≡ length l
+map-long f [] = refl
+map-long f (x ∷ xs) = ap suc (map-long f xs)
+
+pub rows-long : (rows : List (List ℕ)) (n : ℕ) → length rows ≡ n → length (placesIn rows) ≡ n
+unfolding placesIn
+rows-long rows n e = map-long placeIn rows ∙ e
