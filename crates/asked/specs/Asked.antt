@@ -13,7 +13,7 @@ use Rattle.rules.specs.declared.Unit.{Unit}
 use Rattle.rules.specs.declared.Unit.the-variants.{Kwh, MwDay}
 use Rattle.rules.specs.Card.{line}
 use Rattle.rules.specs.Count.{listOf}
-use Rattle.rules.specs.Settings.{row}
+use Rattle.rules.specs.Parts.{row}
 use Rattle.rules.specs.Units.{tranches, priceOf}
 use Rattle.asked.specs.declared.opening.Sizes.{Sizes}
 use Rattle.asked.specs.declared.cutting.Revised.{Revised}

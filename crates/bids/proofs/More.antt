@@ -13,7 +13,7 @@ use Rattle.rules.specs.declared.Auction.{Auction}
 use Rattle.rules.specs.declared.Line.{Line}
 use Rattle.rules.specs.declared.Record.{Record}
 use Rattle.rules.specs.Count.{allUpTo}
-use Rattle.rules.specs.Settings.{capOf}
+use Rattle.rules.specs.Settings.{setup, capOf}
 use Rattle.rules.specs.Held.{goingIn, ticked, freeOf}
 use Rattle.rules.specs.Bid.{bidIn, withdrawnIn, oneIf, reduction, increase, recordOf, onProduct, priceAt, beforeAt, judged}
 use Rattle.rules.proofs.Lists.{all-ext}
@@ -48,12 +48,12 @@ module _ {m : ℕ} {r : ℕ → Record} {l : ℕ → Line} where
       })
 
   pub kept-more : {a : Auction} {t x : Kept} → KeptIn m a r l t
-      → x ≡ keptWith t (r m) (l m) (capOf (a .terms) m) (ticked a m) (priceAt a m) (beforeAt a m)
+      → x ≡ keptWith t (r m) (l m) (capOf (setup a) m) (ticked a m) (priceAt a m) (beforeAt a m)
       → KeptIn (m + 1) a r l x
   unfolding allUpTo
   kept-more {a} {t} {x} s e =
       rw (e, add-one m) (record {
-        caps = ap (λ t. t && withinCap (r m) (l m) (capOf (a .terms) m)) (s .caps);
+        caps = ap (λ t. t && withinCap (r m) (l m) (capOf (setup a) m)) (s .caps);
         ticks = ap (λ t. t && mayReduce (ticked a m) (r m) (l m)) (s .ticks);
         leaves = ap (λ t. t && mayWithdraw (r m) (l m)) (s .leaves);
         exits = ap (λ t. t && exitFits (l m) (priceAt a m) (beforeAt a m)) (s .exits);

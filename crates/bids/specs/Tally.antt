@@ -10,7 +10,7 @@ use Rattle.rules.specs.declared.Auction.{Auction}
 use Rattle.rules.specs.declared.Line.{Line}
 use Rattle.rules.specs.declared.Record.{Record}
 use Rattle.rules.specs.Count.{sumUpTo, allUpTo}
-use Rattle.rules.specs.Settings.{capOf}
+use Rattle.rules.specs.Settings.{setup, capOf}
 use Rattle.rules.specs.Held.{goingIn, ticked}
 use Rattle.rules.specs.Bid.{bidIn, withdrawnIn, oneIf, reduction, increase, reductions, increases, numbered, recordOf, onProduct, priceAt, beforeAt}
 use Rattle.rules.specs.Layout.{loaded}
@@ -71,7 +71,7 @@ pub record Summed (m : ℕ) (r : ℕ → Record) (l : ℕ → Line) (t : Sums) :
   pub rising : t .rising ≡ sumUpTo (λ p. oneIf (isIncreased (r p) (l p))) m
 
 pub record KeptIn (m : ℕ) (a : Auction) (r : ℕ → Record) (l : ℕ → Line) (t : Kept) : Type 0 where
-  pub caps : t .caps ≡ allUpTo (λ p. withinCap (r p) (l p) (capOf (a .terms) p)) m
+  pub caps : t .caps ≡ allUpTo (λ p. withinCap (r p) (l p) (capOf (setup a) p)) m
   pub ticks : t .ticks ≡ allUpTo (λ p. mayReduce (ticked a p) (r p) (l p)) m
   pub leaves : t .leaves ≡ allUpTo (λ p. mayWithdraw (r p) (l p)) m
   pub exits : t .exits ≡ allUpTo (λ p. exitFits (l p) (priceAt a p) (beforeAt a p)) m

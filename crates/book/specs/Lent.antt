@@ -14,7 +14,7 @@ Long s = length s ≡ stateLength
 pub record Counts (a : Auction) : Type 0 where
   pub products : a .terms .products ≤ 8
   pub bidders : a .terms .bidders ≤ 32
-  pub rows : a .terms .rows ≤ 8
+  pub rows : a .decrements .rows ≤ 8
 
 pub record Lent (s : List ℕ) : Type 0 where
   pub long : Long s

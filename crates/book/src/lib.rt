@@ -5,18 +5,20 @@ ghost use Prim.Native.Nat.{_+_, _≤_, _<_};
 ghost use lib.ListN.{length, getD};
 ghost use Rattle.rules.specs.Units.{priceOf, amountOf};
 ghost use Rattle.rules.specs.Card.{noLine};
-ghost use Rattle.rules.specs.Settings.{targetOf, capOf, startOf, initialOf, percentOf, decrementOf};
+ghost use Rattle.rules.specs.Settings.{setup, targetOf, capOf, startOf, initialOf, percentOf, decrementOf};
 ghost use Rattle.rules.specs.Held.{heldIn, recordAt, freeOf};
 ghost use Rattle.rules.specs.Bid.{priceAt, beforeAt, hasFiled};
-ghost use Rattle.rules.specs.Layout.{read1, read2, read3, read4, recordFrom, lineFrom, loaded};
+ghost use Rattle.rules.specs.Layout.{recordWidth, lineWidth, read1, read2, read3, read4, recordFrom, lineFrom, loaded};
 ghost use Rattle.book.specs.Lent.{Long};
 use rules::BasisPoints;
+use rules::Decrements;
 use rules::Item;
 use rules::Line;
 use rules::Lot;
 use rules::Price;
 use rules::Record;
 use rules::Row;
+use rules::Setup;
 use rules::Terms;
 use rules::Tranches;
 
@@ -101,7 +103,7 @@ pub fn bidders(s: &[u8]) -> usize
 
 pub fn rows(s: &[u8]) -> usize
     requires { ⌜ Long (now s) ⌝ }
-    ensures { λ r. ⌜ (r ≡ loaded (now (s .entry)) .terms .rows) × (r ≤ 255) ⌝ }
+    ensures { λ r. ⌜ (r ≡ loaded (now (s .entry)) .decrements .rows) × (r ≤ 255) ⌝ }
 {
     in_use(s[layout::ROWS])
 }
@@ -123,7 +125,7 @@ pub fn statewide(s: &[u8]) -> Tranches
 // "A bitmap marks who has filed."
 pub fn filed(s: &[u8]) -> u32
     requires { ⌜ Long (now s) ⌝ }
-    ensures { λ r. ⌜ r ≡ loaded (now (s .entry)) .filed ⌝ }
+    ensures { λ r. ⌜ r ≡ loaded (now (s .entry)) .cards .filed ⌝ }
 {
     four(s, layout::FILED)
 }
@@ -139,14 +141,14 @@ pub fn has_filed(s: &[u8], b: usize) -> bool
 
 pub fn target(s: &[u8], p: usize) -> Tranches
     requires { ⌜ Long (now s) × (p < 8) ⌝ }
-    ensures { λ r. ⌜ r .0 ≡ targetOf (loaded (now (s .entry)) .terms) p ⌝ }
+    ensures { λ r. ⌜ r .0 ≡ targetOf (setup (loaded (now (s .entry)))) p ⌝ }
 {
     Tranches(one(s, p * layout::LANE + layout::TARGET))
 }
 
 pub fn cap(s: &[u8], p: usize) -> Tranches
     requires { ⌜ Long (now s) × (p < 8) ⌝ }
-    ensures { λ r. ⌜ r .0 ≡ capOf (loaded (now (s .entry)) .terms) p ⌝ }
+    ensures { λ r. ⌜ r .0 ≡ capOf (setup (loaded (now (s .entry)))) p ⌝ }
 {
     Tranches(one(s, p * layout::LANE + layout::CAP))
 }
@@ -154,7 +156,7 @@ pub fn cap(s: &[u8], p: usize) -> Tranches
 // The starting price, in the auction's unit.
 pub fn start(s: &[u8], p: usize) -> Price
     requires { ⌜ Long (now s) × (p < 8) ⌝ }
-    ensures { λ r. ⌜ (r ≡ priceOf (loaded (now (s .entry)) .terms .unit) (startOf (loaded (now (s .entry)) .terms) p)) × (amountOf r ≡ startOf (loaded (now (s .entry)) .terms) p) ⌝ }
+    ensures { λ r. ⌜ (r ≡ priceOf (loaded (now (s .entry)) .terms .unit) (startOf (setup (loaded (now (s .entry)))) p)) × (amountOf r ≡ startOf (setup (loaded (now (s .entry)))) p) ⌝ }
 {
     Price::of(unit(s), three(s, p * layout::LANE + layout::START))
 }
@@ -180,7 +182,7 @@ pub fn before(s: &[u8], p: usize) -> Price
 // Its initial eligibility.
 pub fn initial(s: &[u8], b: usize) -> Tranches
     requires { ⌜ Long (now s) × (b < 32) ⌝ }
-    ensures { λ r. ⌜ r .0 ≡ initialOf (loaded (now (s .entry)) .terms) b ⌝ }
+    ensures { λ r. ⌜ r .0 ≡ initialOf (setup (loaded (now (s .entry)))) b ⌝ }
 {
     Tranches(two(s, b * layout::SEAT + layout::INITIAL))
 }
@@ -197,7 +199,7 @@ pub fn free(s: &[u8], b: usize) -> Tranches
 
 pub fn row(s: &[u8], i: usize) -> Row
     requires { ⌜ Long (now s) × (i < 8) ⌝ }
-    ensures { λ r. ⌜ (r .percent ≡ percentOf (loaded (now (s .entry)) .terms) i) × (r .decrement .0 ≡ decrementOf (loaded (now (s .entry)) .terms) i) ⌝ }
+    ensures { λ r. ⌜ (r .percent ≡ percentOf (loaded (now (s .entry)) .decrements) i) × (r .decrement .0 ≡ decrementOf (loaded (now (s .entry)) .decrements) i) ⌝ }
 {
     let percent = two(s, i * layout::ROW + layout::PERCENT);
     let decrement = BasisPoints(two(s, i * layout::ROW + layout::DECREMENT));
@@ -205,7 +207,7 @@ pub fn row(s: &[u8], i: usize) -> Row
 }
 
 fn record_at(s: &[u8], k: usize) -> Record
-    requires { ⌜ k + 6 ≤ length (now s) ⌝ }
+    requires { ⌜ k + recordWidth ≤ length (now s) ⌝ }
     ensures { λ r. ⌜ r ≡ recordFrom (now (s .entry)) k ⌝ }
 {
     let going = Tranches(one(s, k));
@@ -238,7 +240,7 @@ pub fn held(s: &[u8], k: usize) -> Tranches
 }
 
 fn line_at(s: &[u8], k: usize) -> Line
-    requires { ⌜ k + 6 ≤ length (now s) ⌝ }
+    requires { ⌜ k + lineWidth ≤ length (now s) ⌝ }
     ensures { λ r. ⌜ r ≡ lineFrom (now (s .entry)) k ⌝ }
 {
     let tranches = Tranches(one(s, k));
@@ -256,7 +258,7 @@ fn line_at(s: &[u8], k: usize) -> Line
 // The line that bidder b has filed for product p, where k is b * 8 + p.
 pub fn line(s: &[u8], k: usize) -> Line
     requires { ⌜ Long (now s) × (k < 256) ⌝ }
-    ensures { λ r. ⌜ r ≡ getD (loaded (now (s .entry)) .bids) k noLine ⌝ }
+    ensures { λ r. ⌜ r ≡ getD (loaded (now (s .entry)) .cards .lines) k noLine ⌝ }
 {
     line_at(s, k * layout::LINE + layout::BIDS)
 }
@@ -265,7 +267,7 @@ pub fn line(s: &[u8], k: usize) -> Line
 
 fn items(s: &[u8]) -> [Item; 8]
     requires { ⌜ Long (now s) ⌝ }
-    ensures { λ r. ⌜ r ≡ loaded (now (s .entry)) .terms .item ⌝ }
+    ensures { λ r. ⌜ r ≡ setup (loaded (now (s .entry))) .item ⌝ }
 {
     let none = Item {
         target: Tranches(0),
@@ -288,7 +290,7 @@ fn items(s: &[u8]) -> [Item; 8]
 
 fn eligibility(s: &[u8]) -> [Tranches; 32]
     requires { ⌜ Long (now s) ⌝ }
-    ensures { λ r. ⌜ r ≡ loaded (now (s .entry)) .terms .eligibility ⌝ }
+    ensures { λ r. ⌜ r ≡ setup (loaded (now (s .entry))) .eligibility ⌝ }
 {
     let mut all = [Tranches(0); 32];
     let mut b: usize = 0;
@@ -299,9 +301,9 @@ fn eligibility(s: &[u8]) -> [Tranches; 32]
     all
 }
 
-fn decrements(s: &[u8]) -> [Row; 8]
+fn rows_of(s: &[u8]) -> [Row; 8]
     requires { ⌜ Long (now s) ⌝ }
-    ensures { λ r. ⌜ r ≡ loaded (now (s .entry)) .terms .row ⌝ }
+    ensures { λ r. ⌜ r ≡ loaded (now (s .entry)) .decrements .row ⌝ }
 {
     let none = Row {
         percent: 0,
@@ -316,22 +318,28 @@ fn decrements(s: &[u8]) -> [Row; 8]
     all
 }
 
-pub fn terms(s: &[u8]) -> Terms
+pub fn setup(s: &[u8]) -> Setup
     requires { ⌜ Long (now s) ⌝ }
-    ensures { λ r. ⌜ r ≡ loaded (now (s .entry)) .terms ⌝ }
+    ensures { λ r. ⌜ r ≡ setup (loaded (now (s .entry))) ⌝ }
 {
     let statewide = statewide(s);
-    let item = items(s);
-    let eligibility = eligibility(s);
-    let row = decrements(s);
-    Terms {
+    let terms = Terms {
         unit: unit(s),
         products: s[layout::PRODUCTS],
         bidders: s[layout::BIDDERS],
-        rows: s[layout::ROWS],
         statewide,
+    };
+    let item = items(s);
+    let eligibility = eligibility(s);
+    let row = rows_of(s);
+    let decrements = Decrements {
+        rows: s[layout::ROWS],
+        row,
+    };
+    Setup {
+        terms,
         item,
         eligibility,
-        row,
+        decrements,
     }
 }

@@ -29,22 +29,22 @@ under x n (suc w) h b = under x n w below (λ i l g. b i l (omega arith))
         let z : x / 2 ^ (n + w) < 1 = omega (arith, top, b (n + w) (omega arith) (omega arith)) in
         subst (λ k. x < k) (one-mul (2 ^ (n + w))) (div-lt-iff-lt-mul (pow-pos (n + w)) .0 z)
 
-module _ (a : Auction) (S : Stands a) (h : a .filed < 4294967296) where
-  unset-by : (b : ℕ) → b < 32 → a .terms .bidders ≤ b → (t : Bool) → hasFiled a b ≡ t → a .filed / 2 ^ b % 2 ≡ 0
+module _ (a : Auction) (S : Stands a) (h : a .cards .filed < 4294967296) where
+  unset-by : (b : ℕ) → b < 32 → a .terms .bidders ≤ b → (t : Bool) → hasFiled a b ≡ t → a .cards .filed / 2 ^ b % 2 ≡ 0
   unset-by b l g true e = absurd (let z : ⊥ = omega (arith, filed-in-use a S b l e) in z)
-  unset-by b l g false e = omega (arith, eqb-false (a .filed / 2 ^ b % 2) 1 e)
+  unset-by b l g false e = omega (arith, eqb-false (a .cards .filed / 2 ^ b % 2) 1 e)
 
-  pub few-filed : ones (a .filed) ≤ a .terms .bidders
+  pub few-filed : ones (a .cards .filed) ≤ a .terms .bidders
   few-filed =
       let L = S .limits in
       let n = a .terms .bidders in
       let e : n + (32 - n) ≡ 32 = omega (arith, L .bidders) in
-      ones-le n (a .filed)
-      (under (a .filed) n (32 - n) (subst (λ k. a .filed < 2 ^ k) (sym e) h) (λ i l g. unset-by i (omega arith) l (hasFiled a i) refl))
+      ones-le n (a .cards .filed)
+      (under (a .cards .filed) n (32 - n) (subst (λ k. a .cards .filed < 2 ^ k) (sym e) h) (λ i l g. unset-by i (omega arith) l (hasFiled a i) refl))
 
 -- what is counted, however it is written
-module _ (a : Auction) (n marks : ℕ) (e : n ≡ a .terms .bidders) (f : marks ≡ a .filed) where
-  pub counted-few : ones (a .filed) ≤ a .terms .bidders → ones marks ≤ n
+module _ (a : Auction) (n marks : ℕ) (e : n ≡ a .terms .bidders) (f : marks ≡ a .cards .filed) where
+  pub counted-few : ones (a .cards .filed) ≤ a .terms .bidders → ones marks ≤ n
   counted-few h = rw (e, f) h
 
   pub counted : n - ones marks ≡ toFile a

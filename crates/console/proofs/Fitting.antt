@@ -18,7 +18,7 @@ use Rattle.numbers.proofs.StateLaws.{Stood}
 use Rattle.console.proofs.Counting.{few-filed}
 
 module _ (s : List ℕ) where
-  pub few : Stood s → Bytes s → ones (loaded s .filed) ≤ loaded s .terms .bidders
+  pub few : Stood s → Bytes s → ones (loaded s .cards .filed) ≤ loaded s .terms .bidders
   few S B = few-filed (loaded s) (S .stood) (loaded-bits s B)
 
   bidder-by : (t : Bool) (x : ℕ) → cond t x 6 ≡ 0 → t ≡ true

@@ -9,7 +9,7 @@ use lib.ListN.{length, getD, replicate}
 use lib.Dec.{eqb}
 use Rattle.rules.specs.declared.Answer.the-variants.{Done, Refused}
 use Rattle.rules.specs.declared.Settings.{Settings}
-use Rattle.rules.specs.Settings.{settingsFit, termsOf}
+use Rattle.rules.specs.Settings.{settingsFit, setupOf}
 use Rattle.rules.specs.Layout.{stored, allZero, stateLength}
 use Rattle.rules.specs.Calls.{opened, openCall, returnCall}
 use Rattle.rules.proofs.Lists.{all-take, list-is}
@@ -31,7 +31,7 @@ module _ (s : List ℕ) (x : Settings) where
       unfolding openCall
       open-15 f = rw (eq-eqb (length s) stateLength l, z, f) (refl, refl)
 
-      pub open-done : settingsFit x ≡ true → (t : List ℕ) → t ≡ stored (opened (termsOf x)) → Gives (openCall s x) Done t
+      pub open-done : settingsFit x ≡ true → (t : List ℕ) → t ≡ stored (opened (setupOf x)) → Gives (openCall s x) Done t
       unfolding openCall
       open-done f t e = rw (eq-eqb (length s) stateLength l, z, f) (refl, e)
 

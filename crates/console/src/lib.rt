@@ -28,7 +28,7 @@ pub fn open(s: &mut [u8], given: Settings) -> Answer
     if !opening::settings_fit(given) {
         return Answer::Refused(15);
     }
-    storing::opened(s, opening::terms_of(given));
+    storing::opened(s, opening::setup_of(given));
     Answer::Done
 }
 

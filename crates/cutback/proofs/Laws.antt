@@ -2,7 +2,7 @@
 use mathlib.Core.Path.{_≡_, sym, ap, _∙_, subst}
 use mathlib.Core.Bool.{Bool, true, false, cond}
 use mathlib.Core.List.{List}
-use Prim.Native.Nat.{ℕ, _+_, _%_}
+use Prim.Native.Nat.{ℕ, _%_}
 use native.Mathlib.Omega.{arith}
 use lib.ListN.{length}
 use Rattle.rules.specs.declared.Tranches.{Tranches}
@@ -12,22 +12,24 @@ use Rattle.rules.specs.declared.Auction.{Auction}
 use Rattle.rules.specs.Count.{listOf}
 use Rattle.rules.specs.Units.{tranches, quote}
 use Rattle.rules.specs.Answers.{stopped}
-use Rattle.rules.specs.Settings.{startOf}
-use Rattle.rules.specs.Held.{goingIn, recordAt, place, setTo, freeOf}
+use Rattle.rules.specs.Settings.{setup, startOf}
+use Rattle.rules.specs.Held.{goingIn, recordAt, place, setTo}
 use Rattle.rules.specs.Accept.{at, nowhere, placeAt}
 use Rattle.rules.specs.Bid.{recordOf}
 use Rattle.rules.specs.Round.{opensAt, stops}
-use Rattle.rules.specs.Cutback.{givenFor, cutFrom, revised, reduced, cutBack}
+use Rattle.rules.specs.Cutback.{givenFor, freeCut, revised, reduced, cutBack}
 use Rattle.rules.specs.Layout.{stored, loaded}
 use Rattle.rules.proofs.Sums.{sum-le}
 use Rattle.rules.proofs.Lists.{list-at, list-ext}
+use Rattle.rules.proofs.Parts.{prices-ext, free-ext}
 use Rattle.rules.proofs.Priorities.{sum-const}
 use Rattle.rules.proofs.Storing.{stored-long, loaded-long}
 use Rattle.rules.proofs.Fitting.{bidder-small, record-small}
 use Rattle.rules.proofs.Cutback.{reduced-loads}
 use Rattle.book.specs.Lent.{Counts, Lent}
-use Rattle.storing.specs.Written.{Writes, auction, withPhase, withLimits, withPrices, withFree, withRecords, amounts, recordsIn}
-use Rattle.prices.proofs.Laws.{amounts-of}
+use Rattle.rules.specs.Parts.{tranchesAt, auction, withPhase, withLimits, withPrices, withFree, withRecords}
+use Rattle.storing.specs.Written.{Writes, amountAt, recordsIn}
+use Rattle.prices.proofs.Laws.{amount-in}
 use Rattle.cutback.specs.Cuttable.{Cuttable, Cutting}
 
 -- ---- the parts written
@@ -41,18 +43,20 @@ module _ (a : Auction) (targets caps : List Tranches) where
 
   -- phase, limits, prices, free eligibility and records, one after the other
   pub reduces : (start : List Quote) (free : List Tranches) (ps : List Place) {s s₁ s₂ s₃ s₄ s₅ : List ℕ}
-      → start ≡ listOf (λ p. quote (a .terms .unit) (startOf (a .terms) p)) 8
-      → free ≡ listOf (λ b. tranches (freeOf a b + cutFrom a caps b)) 32
+      → start ≡ listOf (λ p. quote (a .terms .unit) (startOf (setup a) p)) 8
+      → free ≡ listOf (λ b. tranches (freeCut a caps b)) 32
       → ps ≡ listOf (λ k. at (setTo (recordAt (a .records) k) (givenFor caps (k % 8))) 0 0 0 0 0) 256
-      → s ≡ stored a → Writes s s₁ (λ a. withPhase a stopped) → Writes s₁ s₂ (λ a. withLimits a targets caps)
-      → Writes s₂ s₃ (λ a. withPrices a (amounts start) (amounts start)) → Writes s₃ s₄ (λ a. withFree a free)
+      → s ≡ stored a → Writes s s₁ (λ a. withPhase a stopped) → Writes s₁ s₂ (λ a. withLimits a (tranchesAt targets) (tranchesAt caps))
+      → Writes s₂ s₃ (λ a. withPrices a (amountAt start) (amountAt start)) → Writes s₃ s₄ (λ a. withFree a (tranchesAt free))
       → Writes s₄ s₅ (λ a. withRecords a (recordsIn ps)) → s₅ ≡ stored (reduced a targets caps)
   unfolding reduced
   reduces start free ps e f g h v w x y z =
-      let p = amounts-of (a .terms .unit) (startOf (a .terms)) e in
+      let u = amount-in (a .terms .unit) (startOf (setup a)) e in
+      let l = prices-ext (withLimits a (tranchesAt targets) (tranchesAt caps)) (amountAt start) (amountAt start) _ _ u u in
+      let d = free-ext a (tranchesAt free) (freeCut a caps) (λ b h.
+      ap (λ fs. tranchesAt fs b) f ∙ ap (λ n. n .0) (list-at (λ b. tranches (freeCut a caps b)) (tranches 0) 32 b h)) in
       let r = records-of g in
-      z _ (y _ (x _ (w _ (v a h))))
-      ∙ (λ i. stored (auction stopped (a .round) (a .filed) (revised (a .terms) targets caps) (p i) (p i) (f i) (r i) (a .bids)))
+      z _ (y _ (x _ (w _ (v a h)))) ∙ (λ i. stored (auction stopped (a .round) (a .terms) (l i) (d i) (a .decrements) (r i) (a .cards)))
 
 -- ---- a standing state that may be cut back
 

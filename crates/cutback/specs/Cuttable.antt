@@ -27,6 +27,6 @@ pub record Cuttable (s : List ℕ) : Type 0 where
 pub record Cutting (s : List ℕ) (targets caps : List Tranches) : Type 0 where
   pub long : Long s
   pub stands : Stands (loaded s)
-  pub bits : loaded s .filed < 4294967296
+  pub bits : loaded s .cards .filed < 4294967296
   pub bidding : isOpen (loaded s) ≡ true
   pub may : mayCut (loaded s) targets caps ≡ true

@@ -6,10 +6,10 @@ ghost use lib.ListN.{length};
 ghost use lib.Dec.{leb, eqb};
 ghost use Rattle.rules.specs.Count.{sumUpTo, allUpTo, listOf};
 ghost use Rattle.rules.specs.Units.{tranches, quote};
-ghost use Rattle.rules.specs.Settings.{startOf};
-ghost use Rattle.rules.specs.Held.{recordAt, setTo, freeOf};
+ghost use Rattle.rules.specs.Settings.{setup, startOf};
+ghost use Rattle.rules.specs.Held.{recordAt, setTo};
 ghost use Rattle.rules.specs.Accept.{at};
-ghost use Rattle.rules.specs.Cutback.{givenFor, numbersFit, mayCut, cutFrom, reduced, cutBack};
+ghost use Rattle.rules.specs.Cutback.{givenFor, numbersFit, mayCut, cutFrom, freeCut, reduced, cutBack};
 ghost use Rattle.rules.specs.Calls.{suggestedCall};
 ghost use Rattle.rules.specs.Layout.{loaded, stored};
 ghost use Rattle.book.specs.Lent.{Long, Lent};
@@ -42,7 +42,7 @@ fn still_ranked(targets: [Tranches; 8], p: usize) -> bool
 // "none larger than before and none 0, targets still ranked, caps at most targets"; past the products in use 0.
 fn numbers_fit(s: &[u8], targets: [Tranches; 8], caps: [Tranches; 8], p: usize) -> bool
     requires { ⌜ Long (now s) × (p < 8) ⌝ }
-    ensures { λ r. ⌜ r ≡ numbersFit (loaded (now (s .entry)) .terms) targets caps p ⌝ }
+    ensures { λ r. ⌜ r ≡ numbersFit (setup (loaded (now (s .entry)))) targets caps p ⌝ }
 {
     let target = targets[p];
     let cap = caps[p];
@@ -57,7 +57,7 @@ fn numbers_fit(s: &[u8], targets: [Tranches; 8], caps: [Tranches; 8], p: usize) 
 
 fn all_fit(s: &[u8], targets: [Tranches; 8], caps: [Tranches; 8]) -> bool
     requires { ⌜ Long (now s) ⌝ }
-    ensures { λ r. ⌜ r ≡ allUpTo (numbersFit (loaded (now (s .entry)) .terms) targets caps) 8 ⌝ }
+    ensures { λ r. ⌜ r ≡ allUpTo (numbersFit (setup (loaded (now (s .entry)))) targets caps) 8 ⌝ }
 {
     let mut all = true;
     let mut p: usize = 0;
@@ -100,7 +100,7 @@ pub fn may_cut(s: &[u8], targets: [Tranches; 8], caps: [Tranches; 8]) -> bool
 // The starting prices.
 fn starts(s: &[u8]) -> [Quote; 8]
     requires { ⌜ Long (now s) ⌝ }
-    ensures { λ r. ⌜ r ≡ listOf (λ p. quote (loaded (now (s .entry)) .terms .unit) (startOf (loaded (now (s .entry)) .terms) p)) 8 ⌝ }
+    ensures { λ r. ⌜ r ≡ listOf (λ p. quote (loaded (now (s .entry)) .terms .unit) (startOf (setup (loaded (now (s .entry)))) p)) 8 ⌝ }
 {
     let none = Quote {
         price: Price::of(0, 0),
@@ -172,7 +172,7 @@ fn more(free: Tranches, cut: u32) -> Tranches
 // "and the difference becomes its free eligibility": it is added to what is free.
 fn freed(s: &[u8], caps: [Tranches; 8]) -> [Tranches; 32]
     requires { ⌜ Cuttable (now s) ⌝ }
-    ensures { λ r. ⌜ r ≡ listOf (λ b. tranches (freeOf (loaded (now (s .entry))) b + cutFrom (loaded (now (s .entry))) caps b)) 32 ⌝ }
+    ensures { λ r. ⌜ r ≡ listOf (λ b. tranches (freeCut (loaded (now (s .entry))) caps b)) 32 ⌝ }
 {
     let mut all = [Tranches(0); 32];
     let mut b: usize = 0;
@@ -206,7 +206,6 @@ pub fn cut_back(s: &mut [u8], targets: [Tranches; 8], caps: [Tranches; 8])
     ensures { λ _. ⌜ now (s .exit) ≡ stored (cutBack (loaded (now (s .entry))) targets caps) ⌝ }
 {
     reduce(s, targets, caps);
-    let _ = storing::as_stored(s);
     if held::stops(s) {
         return;
     }

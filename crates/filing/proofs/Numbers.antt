@@ -1,5 +1,5 @@
 -- The number of a card that was read while bids are open, and what filing it leaves. Assumes nothing.
-use mathlib.Core.Path.{_≡_, refl, sym, _∙_, ap}
+use mathlib.Core.Path.{_≡_, sym, _∙_, ap}
 use mathlib.Core.Bool.{Bool, true, false, cond}
 use mathlib.Core.List.{List}
 use Prim.Native.Nat.{ℕ}
@@ -60,7 +60,7 @@ module _ (s c : List ℕ) (r : CardRead) (o : loaded s .phase ≡ 1) (e : r ≡ 
         }
 
 -- the bidder's slot and bit written
-pub slot-filed : (a : Auction) (b x marks : ℕ) (ls : List Line) {z : List ℕ} → marks ≡ setIn x b 1 → x ≡ a .filed
+pub slot-filed : (a : Auction) (b x marks : ℕ) (ls : List Line) {z : List ℕ} → marks ≡ setIn x b 1 → x ≡ a .cards .filed
     → z ≡ stored (withFiled (withSlot a b ls) marks) → z ≡ stored (withCard a b ls)
 unfolding withCard
 slot-filed a b x marks ls e f h = h ∙ ap (λ x. stored (withFiled (withSlot a b ls) x)) (e ∙ ap (λ x. setIn x b 1) f)

@@ -1,3 +1,4 @@
 pub mod Signed
 pub mod Found
 pub mod Passed
+pub mod Summing

@@ -1,19 +1,20 @@
 // "What is held" of document 01, and the part of "Calculating", step 5, that only reads: excess supply and the stop.
 // Every sum is of u16 fields, at most 32 or 8 of them, and is taken where it cannot wrap whatever the state holds.
+// Of two forms of a function the one that ends in `_by` is handed what is held of each product, and the other sums it (`sums`).
 ghost use mathlib.Core.Path.{_≡_};
 ghost use Prim.Native.Nat.{_-_, _≤_, _<_};
 ghost use mathlib.Core.Bool.{_&&_};
 ghost use lib.ListN.{length};
 ghost use lib.Dec.{eqb};
 ghost use Rattle.rules.specs.Count.{sumUpTo};
-ghost use Rattle.rules.specs.Settings.{targetOf};
-ghost use Rattle.rules.specs.Held.{heldIn, held, standingOf, ticked, aboveZero, freeOf, excess};
+ghost use Rattle.rules.specs.Settings.{setup, targetOf};
+ghost use Rattle.rules.specs.Held.{heldIn, held, standing, standingOf, ticked, aboveZero, freeOf, excess};
 ghost use Rattle.rules.specs.Bid.{oneIf, recordOf, priceAt};
-ghost use Rattle.rules.specs.Standing.{keptOn};
 ghost use Rattle.rules.specs.Round.{atBottom, stops};
 ghost use Rattle.rules.specs.Layout.{loaded};
 ghost use Rattle.book.specs.Lent.{Long, Lent};
 ghost use Rattle.held.specs.Ticks.{Ticks};
+ghost use Rattle.held.specs.Sums.{heldOn, AllHeld, Summed};
 
 // "Held is g + d + r over all bidders."
 pub fn held(s: &[u8], p: usize) -> u32
@@ -26,22 +27,6 @@ pub fn held(s: &[u8], p: usize) -> u32
     while b < n {
         let r = book::record(s, b * 8 + p);
         sum += r.held();
-        b += 1;
-    }
-    sum
-}
-
-// '"Kept" means denied or retained.'
-pub fn kept_on(s: &[u8], p: usize) -> u32
-    requires { ⌜ Lent (now s) × (p < 8) ⌝ }
-    ensures { λ r. ⌜ (r ≡ keptOn (loaded (now (s .entry))) p) × (r ≤ 4194240) ⌝ }
-{
-    let n = book::bidders(s);
-    let mut sum: u32 = 0;
-    let mut b: usize = 0;
-    while b < n {
-        let r = book::record(s, b * 8 + p);
-        sum += r.kept();
         b += 1;
     }
     sum
@@ -65,26 +50,54 @@ pub fn row_held(s: &[u8], b: usize) -> u32
 
 fn target(s: &[u8], p: usize) -> u32
     requires { ⌜ Long (now s) × (p < 8) ⌝ }
-    ensures { λ r. ⌜ (r ≡ targetOf (loaded (now (s .entry)) .terms) p) × (r ≤ 65535) ⌝ }
+    ensures { λ r. ⌜ (r ≡ targetOf (setup (loaded (now (s .entry)))) p) × (r ≤ 65535) ⌝ }
 {
     let t = book::target(s, p);
     t.0 as u32
 }
 
+// What is held of each product.
+pub fn sums(s: &[u8]) -> [u32; 8]
+    requires { ⌜ Lent (now s) ⌝ }
+    ensures { λ r. ⌜ AllHeld (loaded (now (s .entry))) r ⌝ }
+{
+    let mut sums = [0u32; 8];
+    let mut p: usize = 0;
+    while p < 8 {
+        sums[p] = held(s, p);
+        p += 1;
+    }
+    sums
+}
+
 // "Standing of a product: held minus target, negative while it is short."
+fn less_target(s: &[u8], p: usize, held: u32) -> i32
+    requires { ⌜ Long (now s) × ((p < 8) × (held ≤ 6291360)) ⌝ }
+    ensures { λ r. ⌜ (r ≡ standing held (targetOf (setup (loaded (now (s .entry)))) p)) × (aboveZero (standing held (targetOf (setup (loaded (now (s .entry)))) p)) ≤ 6291360) ⌝ }
+{
+    held as i32 - target(s, p) as i32
+}
+
 pub fn standing(s: &[u8], p: usize) -> i32
     requires { ⌜ Lent (now s) × (p < 8) ⌝ }
     ensures { λ r. ⌜ (r ≡ standingOf (loaded (now (s .entry))) p) × (aboveZero (standingOf (loaded (now (s .entry))) p) ≤ 6291360) ⌝ }
 {
-    held(s, p) as i32 - target(s, p) as i32
+    less_target(s, p, held(s, p))
+}
+
+fn standing_by(s: &[u8], held: &[u32; 8], p: usize) -> i32
+    requires { ⌜ Summed (now s) (now held) × (p < 8) ⌝ }
+    ensures { λ r. ⌜ (r ≡ standingOf (loaded (now (s .entry))) p) × (aboveZero (standingOf (loaded (now (s .entry))) p) ≤ 6291360) ⌝ }
+{
+    less_target(s, p, held[p])
 }
 
 // "A product ticked exactly when its standing after the last calculation was above zero."
-pub fn ticked(s: &[u8], p: usize) -> bool
-    requires { ⌜ Lent (now s) × (p < 8) ⌝ }
+pub fn ticked(s: &[u8], held: &[u32; 8], p: usize) -> bool
+    requires { ⌜ Summed (now s) (now held) × (p < 8) ⌝ }
     ensures { λ r. ⌜ r ≡ ticked (loaded (now (s .entry))) p ⌝ }
 {
-    standing(s, p) > 0
+    standing_by(s, held, p) > 0
 }
 
 fn one_if(t: bool) -> u8
@@ -94,25 +107,32 @@ fn one_if(t: bool) -> u8
 }
 
 // 1 for each product that ticked.
-pub fn ticks(s: &[u8]) -> [u8; 8]
-    requires { ⌜ Lent (now s) ⌝ }
+pub fn ticks_by(s: &[u8], held: &[u32; 8]) -> [u8; 8]
+    requires { ⌜ Summed (now s) (now held) ⌝ }
     ensures { λ r. ⌜ (length r ≡ 8) × Ticks r (loaded (now (s .entry))) ⌝ }
 {
     let mut ticks = [0u8; 8];
     let mut p: usize = 0;
     while p < 8 {
-        ticks[p] = one_if(ticked(s, p));
+        ticks[p] = one_if(ticked(s, held, p));
         p += 1;
     }
     ticks
 }
 
-// The exact case: as much is held as the target.
-pub fn met(s: &[u8], p: usize) -> bool
-    requires { ⌜ Lent (now s) × (p < 8) ⌝ }
-    ensures { λ r. ⌜ r ≡ eqb (held (loaded (now (s .entry)) .records) (loaded (now (s .entry)) .terms .bidders) p) (targetOf (loaded (now (s .entry)) .terms) p) ⌝ }
+pub fn ticks(s: &[u8]) -> [u8; 8]
+    requires { ⌜ Lent (now s) ⌝ }
+    ensures { λ r. ⌜ (length r ≡ 8) × Ticks r (loaded (now (s .entry))) ⌝ }
 {
-    standing(s, p) == 0
+    ticks_by(s, &sums(s))
+}
+
+// The exact case: as much is held as the target.
+pub fn met(s: &[u8], held: &[u32; 8], p: usize) -> bool
+    requires { ⌜ Summed (now s) (now held) × (p < 8) ⌝ }
+    ensures { λ r. ⌜ r ≡ eqb (heldOn (loaded (now (s .entry))) p) (targetOf (setup (loaded (now (s .entry)))) p) ⌝ }
+{
+    standing_by(s, held, p) == 0
 }
 
 // A standing above zero as a number, and 0 for any other.
@@ -125,22 +145,22 @@ pub fn above_zero(standing: i32) -> u32
     0
 }
 
-fn surplus(s: &[u8], p: usize) -> u32
-    requires { ⌜ Lent (now s) × (p < 8) ⌝ }
+fn surplus(s: &[u8], held: &[u32; 8], p: usize) -> u32
+    requires { ⌜ Summed (now s) (now held) × (p < 8) ⌝ }
     ensures { λ r. ⌜ (r ≡ aboveZero (standingOf (loaded (now (s .entry))) p)) × (r ≤ 6291360) ⌝ }
 {
-    above_zero(standing(s, p))
+    above_zero(standing_by(s, held, p))
 }
 
-fn surpluses(s: &[u8]) -> u32
-    requires { ⌜ Lent (now s) ⌝ }
+fn surpluses(s: &[u8], held: &[u32; 8]) -> u32
+    requires { ⌜ Summed (now s) (now held) ⌝ }
     ensures { λ r. ⌜ (r ≡ sumUpTo (λ p. aboveZero (standingOf (loaded (now (s .entry))) p)) (loaded (now (s .entry)) .terms .products)) × (r ≤ 50330880) ⌝ }
 {
     let m = book::products(s);
     let mut sum: u32 = 0;
     let mut p: usize = 0;
     while p < m {
-        sum += surplus(s, p);
+        sum += surplus(s, held, p);
         p += 1;
     }
     sum
@@ -162,39 +182,53 @@ fn all_free(s: &[u8]) -> u32
 }
 
 // "Total excess supply = the standings above zero, summed, plus all f."
+pub fn excess_by(s: &[u8], held: &[u32; 8]) -> u32
+    requires { ⌜ Summed (now s) (now held) ⌝ }
+    ensures { λ r. ⌜ (r ≡ excess (loaded (now (s .entry)))) × (r ≤ 52428000) ⌝ }
+{
+    surpluses(s, held) + all_free(s)
+}
+
 pub fn excess(s: &[u8]) -> u32
     requires { ⌜ Lent (now s) ⌝ }
     ensures { λ r. ⌜ (r ≡ excess (loaded (now (s .entry)))) × (r ≤ 52428000) ⌝ }
 {
-    surpluses(s) + all_free(s)
+    excess_by(s, &sums(s))
 }
 
-fn fell_to_one(s: &[u8], p: usize) -> bool
-    requires { ⌜ Lent (now s) × (p < 8) ⌝ }
+fn fell_to_one(s: &[u8], held: &[u32; 8], p: usize) -> bool
+    requires { ⌜ Summed (now s) (now held) × (p < 8) ⌝ }
     ensures { λ r. ⌜ r ≡ ticked (loaded (now (s .entry))) p && eqb (priceAt (loaded (now (s .entry))) p) 1 ⌝ }
 {
-    ticked(s, p) & (book::price(s, p).amount() == 1)
+    ticked(s, held, p) & (book::price(s, p).amount() == 1)
 }
 
 // Whether a product above target is at price 1.
-fn at_bottom(s: &[u8]) -> bool
-    requires { ⌜ Lent (now s) ⌝ }
+fn at_bottom(s: &[u8], held: &[u32; 8]) -> bool
+    requires { ⌜ Summed (now s) (now held) ⌝ }
     ensures { λ r. ⌜ r ≡ atBottom (loaded (now (s .entry))) ⌝ }
 {
     let m = book::products(s);
     let mut one = false;
     let mut p: usize = 0;
     while p < m {
-        one = one | fell_to_one(s, p);
+        one = one | fell_to_one(s, held, p);
         p += 1;
     }
     one
 }
 
 // "A product above target is at price 1, or this was round 4,095."
+pub fn stops_by(s: &[u8], held: &[u32; 8]) -> bool
+    requires { ⌜ Summed (now s) (now held) ⌝ }
+    ensures { λ r. ⌜ r ≡ stops (loaded (now (s .entry))) ⌝ }
+{
+    at_bottom(s, held) | (book::round(s) == 4095)
+}
+
 pub fn stops(s: &[u8]) -> bool
     requires { ⌜ Lent (now s) ⌝ }
     ensures { λ r. ⌜ r ≡ stops (loaded (now (s .entry))) ⌝ }
 {
-    at_bottom(s) | (book::round(s) == 4095)
+    stops_by(s, &sums(s))
 }

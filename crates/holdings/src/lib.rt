@@ -6,11 +6,13 @@ ghost use Prim.Native.Nat.{_<_};
 ghost use lib.Dec.{ltb, eqb};
 ghost use Rattle.rules.specs.Count.{allUpTo};
 ghost use Rattle.rules.specs.Units.{amountOf};
-ghost use Rattle.rules.specs.Settings.{targetOf};
-ghost use Rattle.rules.specs.Held.{held, ticked};
-ghost use Rattle.rules.specs.Standing.{implies, isOpen, keptOn, productStands, recordWithin, recordStands, bidderStands};
+ghost use Rattle.rules.specs.Settings.{setup, targetOf};
+ghost use Rattle.rules.specs.Held.{ticked};
+ghost use Rattle.rules.specs.Standing.{implies, isOpen, keptOn, productStands, recordZero, recordWithin, bidderStands};
 ghost use Rattle.rules.specs.Layout.{loaded};
 ghost use Rattle.book.specs.Lent.{Lent};
+ghost use Rattle.held.specs.Sums.{heldOn, Counted};
+ghost use Rattle.holdings.specs.Pass.{ColumnOf, ColumnsOf};
 use rules::Price;
 use rules::Record;
 use rules::Tranches;
@@ -23,17 +25,17 @@ fn choose(t: bool, x: bool, y: bool) -> bool
 }
 
 // "q > p where held exceeds target (in the open phase) or a tranche is kept"; "kept tranches only where held equals target"
-fn fell_where_due(s: &[u8], p: usize, fell: bool) -> bool
-    requires { ⌜ Lent (now s) × (p < 8) ⌝ }
-    ensures { λ r. ⌜ r ≡ implies (isOpen (loaded (now (s .entry))) && ticked (loaded (now (s .entry))) p) fell && implies (ltb 0 (keptOn (loaded (now (s .entry))) p)) (fell && eqb (held (loaded (now (s .entry)) .records) (loaded (now (s .entry)) .terms .bidders) p) (targetOf (loaded (now (s .entry)) .terms) p)) ⌝ }
+fn fell_where_due(s: &[u8], held: &[u32; 8], kept: &[u32; 8], p: usize, fell: bool) -> bool
+    requires { ⌜ Counted (now s) (now held) (now kept) × (p < 8) ⌝ }
+    ensures { λ r. ⌜ r ≡ implies (isOpen (loaded (now (s .entry))) && ticked (loaded (now (s .entry))) p) fell && implies (ltb 0 (keptOn (loaded (now (s .entry))) p)) (fell && eqb (heldOn (loaded (now (s .entry))) p) (targetOf (setup (loaded (now (s .entry)))) p)) ⌝ }
 {
-    let over = choose((book::phase(s) == 1) & held::ticked(s, p), fell, true);
-    let kept = choose(held::kept_on(s, p) > 0, fell & held::met(s, p), true);
-    over & kept
+    let over = choose((book::phase(s) == 1) & held::ticked(s, held, p), fell, true);
+    let due = choose(kept[p] > 0, fell & held::met(s, held, p), true);
+    over & due
 }
 
-fn product_stands(s: &[u8], p: usize) -> bool
-    requires { ⌜ Lent (now s) × (p < 8) ⌝ }
+fn product_stands(s: &[u8], held: &[u32; 8], kept: &[u32; 8], p: usize) -> bool
+    requires { ⌜ Counted (now s) (now held) (now kept) × (p < 8) ⌝ }
     ensures { λ r. ⌜ r ≡ productStands (loaded (now (s .entry))) p ⌝ }
 {
     let x = book::price(s, p).amount();
@@ -43,17 +45,17 @@ fn product_stands(s: &[u8], p: usize) -> bool
     }
     // "1 <= p <= q, q at most the starting price"
     let start = book::start(s, p).amount();
-    (1 <= x) & ((x <= q) & ((q <= start) & fell_where_due(s, p, x < q)))
+    (1 <= x) & ((x <= q) & ((q <= start) & fell_where_due(s, held, kept, p, x < q)))
 }
 
-pub fn products_stand(s: &[u8]) -> bool
-    requires { ⌜ Lent (now s) ⌝ }
+pub fn products_stand(s: &[u8], held: &[u32; 8], kept: &[u32; 8]) -> bool
+    requires { ⌜ Counted (now s) (now held) (now kept) ⌝ }
     ensures { λ r. ⌜ r ≡ allUpTo (productStands (loaded (now (s .entry)))) 8 ⌝ }
 {
     let mut ok = true;
     let mut p: usize = 0;
     while p < 8 {
-        ok = ok & product_stands(s, p);
+        ok = ok & product_stands(s, held, kept, p);
         p += 1;
     }
     ok
@@ -72,29 +74,77 @@ fn record_within(p: Price, q: Price, cap: Tranches, r: Record) -> bool
     fits & (r.held() <= cap.0 as u32)
 }
 
-fn record_stands(s: &[u8], k: usize) -> bool
-    requires { ⌜ Lent (now s) × (k < 256) ⌝ }
-    ensures { λ r. ⌜ r ≡ recordStands (loaded (now (s .entry))) k ⌝ }
+// Past the bidders or products in use a record is 0.
+fn record_stands(used: bool, p: Price, q: Price, cap: Tranches, r: Record) -> bool
+    ensures { λ o. ⌜ o ≡ cond used (recordWithin (amountOf p) (amountOf q) (cap .0) r) (recordZero r) ⌝ }
 {
-    let r = book::record(s, k);
-    let p = k % 8;
-    if (k / 8 < book::bidders(s)) & (p < book::products(s)) {
-        return record_within(book::price(s, p), book::before(s, p), book::cap(s, p), r);
+    if used {
+        return record_within(p, q, cap, r);
     }
     r.is_zero()
 }
 
-pub fn records_stand(s: &[u8]) -> bool
-    requires { ⌜ Lent (now s) ⌝ }
-    ensures { λ r. ⌜ r ≡ allUpTo (recordStands (loaded (now (s .entry)))) 256 ⌝ }
+// What one pass over a product's records finds: what is held and kept of it, and whether they stand.
+pub struct Column {
+    pub held: u32,
+    pub kept: u32,
+    pub stands: bool,
+}
+
+fn column_of(s: &[u8], p: usize) -> Column
+    requires { ⌜ Lent (now s) × (p < 8) ⌝ }
+    ensures { λ r. ⌜ ColumnOf (loaded (now (s .entry))) p r ⌝ }
 {
+    let n = book::bidders(s);
+    let used = p < book::products(s);
+    let price = book::price(s, p);
+    let before = book::before(s, p);
+    let cap = book::cap(s, p);
+    let mut held: u32 = 0;
+    let mut kept: u32 = 0;
     let mut ok = true;
-    let mut k: usize = 0;
-    while k < 256 {
-        ok = ok & record_stands(s, k);
-        k += 1;
+    let mut b: usize = 0;
+    while b < n {
+        let r = book::record(s, b * 8 + p);
+        held += r.held();
+        kept += r.kept();
+        ok = ok & record_stands(used, price, before, cap, r);
+        b += 1;
     }
-    ok
+    while b < 32 {
+        ok = ok & book::record(s, b * 8 + p).is_zero();
+        b += 1;
+    }
+    Column {
+        held,
+        kept,
+        stands: ok,
+    }
+}
+
+// The same of each product, and whether all records stand.
+pub struct Columns {
+    pub held: [u32; 8],
+    pub kept: [u32; 8],
+    pub stand: bool,
+}
+
+pub fn columns_of(s: &[u8]) -> Columns
+    requires { ⌜ Lent (now s) ⌝ }
+    ensures { λ r. ⌜ ColumnsOf (loaded (now (s .entry))) r ⌝ }
+{
+    let mut held = [0u32; 8];
+    let mut kept = [0u32; 8];
+    let mut stand = true;
+    let mut p: usize = 0;
+    while p < 8 {
+        let c = column_of(s, p);
+        held[p] = c.held;
+        kept[p] = c.kept;
+        stand = stand & c.stands;
+        p += 1;
+    }
+    Columns { held, kept, stand }
 }
 
 // "and, with f, within initial eligibility"

@@ -1,15 +1,17 @@
 // The settings that a manager gives: whether they are within their limits, in one unit, and as they stand in the state.
+use rules::Decrements;
 use rules::Item;
 use rules::Product;
 use rules::Settings;
+use rules::Setup;
 use rules::Terms;
 use rules::Tranches;
 ghost use mathlib.Core.Path.{_≡_};
 ghost use mathlib.Core.Bool.{true, cond};
 ghost use Prim.Native.Nat.{_<_};
 ghost use lib.Dec.{ltb, eqb};
-ghost use Rattle.rules.specs.Count.{allUpTo, listOf};
-ghost use Rattle.rules.specs.Settings.{itemOf, termsOf, productAt, oneUnit, settingsFit};
+ghost use Rattle.rules.specs.Count.{listOf};
+ghost use Rattle.rules.specs.Settings.{itemOf, setupOf, productAt, oneUnit, settingsFit};
 ghost use Rattle.rules.specs.Units.{unitNumber, unitOf};
 
 fn item_of(p: Product) -> Item
@@ -43,23 +45,26 @@ fn items_of(s: Settings) -> [Item; 8]
     items
 }
 
-pub fn terms_of(s: Settings) -> Terms
-    ensures { λ r. ⌜ r ≡ termsOf s ⌝ }
+pub fn setup_of(s: Settings) -> Setup
+    ensures { λ r. ⌜ r ≡ setupOf s ⌝ }
 {
     let unit = s.unit;
-    let item = items_of(s);
     let statewide = s.statewide;
-    let eligibility = s.eligibility;
-    let row = s.row;
-    Terms {
+    let terms = Terms {
         unit: unit.number(),
         products: s.products,
         bidders: s.bidders,
-        rows: s.rows,
         statewide,
+    };
+    let item = items_of(s);
+    let eligibility = s.eligibility;
+    let row = s.row;
+    let decrements = Decrements { rows: s.rows, row };
+    Setup {
+        terms,
         item,
         eligibility,
-        row,
+        decrements,
     }
 }
 
@@ -97,5 +102,5 @@ pub fn settings_fit(s: Settings) -> bool
     if !one_unit(s) {
         return false;
     }
-    settings::within_limits(terms_of(s))
+    settings::within_limits(setup_of(s))
 }

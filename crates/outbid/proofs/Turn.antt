@@ -1,6 +1,6 @@
 -- The loop of step 4: what is left gives the same answer after every tranche outbid. Assumes nothing.
-use mathlib.Core.Path.{_≡_, refl, sym, _∙_, ap, ap₂}
-use mathlib.Core.Bool.{Bool, true, false, _&&_, not}
+use mathlib.Core.Path.{_≡_, refl, sym, _∙_, ap, ap₂, subst}
+use mathlib.Core.Bool.{Bool, true, false, _&&_, not, cond}
 use mathlib.Core.List.{List}
 use Prim.Native.Nat.{ℕ, zero, suc, _+_, _-_, _*_, _≤_, _<_}
 use native.Mathlib.Omega.{arith}
@@ -24,7 +24,8 @@ use Rattle.search.specs.Room.{Room, Drawn, isOne, targetOn}
 use Rattle.search.specs.Step.{Sums}
 use Rattle.search.proofs.Laws.{first-ext, first-before, column-small}
 use Rattle.outbid.specs.declared.Loss.{Loss}
-use Rattle.outbid.specs.Loss.{Counted, overBy, Looking, deniedOf, Free, paid, Lost}
+use Rattle.outbid.specs.Loss.{Counted, overBy, Looking, deniedOf, Free, paid, Known, Lost}
+use Rattle.outbid.proofs.Laws.{known-none, known-if}
 
 -- ---- one turn of the definition
 
@@ -97,19 +98,20 @@ module _ (m n : ℕ) (targets ticks order : List ℕ) (ps₀ : List Place) where
   whole = outbidAll m n (targetOn targets) (isOne ticks) (drawn order) ps₀ (replicate 32 (tranches 0))
 
   -- no product before `start` is over
-  pub record Turn (ps : List Place) (held kept : List ℕ) (fs : List Tranches) (count start fuel : ℕ) : Type 0 where
+  pub record Turn (ps : List Place) (held kept denied : List ℕ) (fs : List Tranches) (count start : ℕ) (next : Pick) (fuel : ℕ) : Type 0 where
     pub same : rest fuel (outbid ps fs count) ≡ whole
     pub room : Room ps
     pub long : length fs ≡ 32
     pub free : Free fs ps
     pub some : count + fuel ≤ 33553920
-    pub sums : Counted ps held kept n
+    pub sums : Counted ps held kept denied n
     pub start-in : start ≤ m
     pub before : firstUpTo (overBy held kept targets ticks) start ≡ Nobody
+    pub known : Known n (drawn order) ps start next
 
-  pub turn-start : (held kept : List ℕ) (fuel : ℕ) → Room ps₀ → Counted ps₀ held kept n → fuel ≡ every keptOf ps₀ n
-      → fuel ≤ 33553920 → Turn ps₀ held kept (replicate 32 (tranches 0)) 0 0 fuel
-  turn-start held kept fuel R S e l = record {
+  pub turn-start : (held kept denied : List ℕ) (fuel : ℕ) → Room ps₀ → Counted ps₀ held kept denied n → fuel ≡ every keptOf ps₀ n
+      → fuel ≤ 33553920 → Turn ps₀ held kept denied (replicate 32 (tranches 0)) 0 0 Nobody fuel
+  turn-start held kept denied fuel R S e l = record {
     same = ap (λ f. rest f (outbid ps₀ (replicate 32 (tranches 0)) 0)) e;
     room = R;
     long = length-replicate 32 (tranches 0);
@@ -118,6 +120,7 @@ module _ (m n : ℕ) (targets ticks order : List ℕ) (ps₀ : List Place) where
     sums = S;
     start-in = omega arith;
     before = refl;
+    known = known-none n (drawn order) ps₀ 0;
   }
 
 -- the loop's values, with what the caller ensures
@@ -131,13 +134,15 @@ pub record Loop : Type 0 where
   pub ps : List Place
   pub held : List ℕ
   pub kept : List ℕ
+  pub denied : List ℕ
   pub fs : List Tranches
   pub count : ℕ
   pub start : ℕ
+  pub next : Pick
   pub fuel : ℕ
   pub few : m ≤ 8
   pub draw : Drawn n order
-  pub turn : Turn m n targets ticks order ps₀ ps held kept fs count start fuel
+  pub turn : Turn m n targets ticks order ps₀ ps held kept denied fs count start next fuel
 
 module _ (w : Loop) where
   abbrev all : Outbid
@@ -182,6 +187,12 @@ module _ (w : Loop) where
     pub turn-product : p < 8
     turn-product = omega (arith, found .0, w .few)
 
+    -- who is next of a product is not known of another
+    pub turn-known : Known (w .n) (drawn (w .order)) (w .ps) p (cond (eqb p (w .start)) (w .next) Nobody)
+    turn-known =
+        known-if (w .n) (drawn (w .order)) (w .ps) p (w .next) (eqb p (w .start))
+        (λ t. subst (λ q. Known (w .n) (drawn (w .order)) (w .ps) q (w .next)) (sym (eqb-true p (w .start) t)) (w .turn .known))
+
     module _ (o : Loss) (L : Lost (w .n) (drawn (w .order)) (w .ps) p o) where
       -- there is as much to lose
       pub turn-held : o .more ≤ getD (w .held) p 0
@@ -189,6 +200,9 @@ module _ (w : Loop) where
 
       pub turn-kept : o .more ≤ getD (w .kept) p 0
       turn-kept = omega (arith, L .kept, w .turn .sums .keeps p turn-product)
+
+      pub turn-denied : o .freed ≤ getD (w .denied) p 0
+      turn-denied = omega (arith, L .denied, w .turn .sums .denies p turn-product)
 
       abbrev lessOf : List ℕ → List ℕ
       lessOf sums = set sums p (getD sums p 0 - o .more)
@@ -204,7 +218,8 @@ module _ (w : Loop) where
 
       pub turn-again : 0 < w .fuel
           → Turn (w .m) (w .n) (w .targets) (w .ticks) (w .order) (w .ps₀) (set (w .ps) (o .at) (o .place)) (lessOf (w .held))
-          (lessOf (w .kept)) (paid (w .fs) o) (w .count + o .more) p (w .fuel - 1)
+          (lessOf (w .kept)) (set (w .denied) p (getD (w .denied) p 0 - o .freed)) (paid (w .fs) o) (w .count + o .more) p (o .next)
+          (w .fuel - 1)
       turn-again l =
           let z : suc (w .fuel - 1) ≡ w .fuel = omega arith in
           let S = w .turn .sums in
@@ -226,7 +241,11 @@ module _ (w : Loop) where
               kept-long = length-set (w .kept) p _ ∙ S .kept-long;
               keeps = sums-less keptOf (w .ps) qs (w .n) (w .kept) p (o .more) (omega (arith, turn-product, S .kept-long))
                   turn-product (S .keeps) (L .kept) (L .beside keptOf);
+              denied-long = length-set (w .denied) p _ ∙ S .denied-long;
+              denies = sums-less deniedOf (w .ps) qs (w .n) (w .denied) p (o .freed) (omega (arith, turn-product, S .denied-long))
+                  turn-product (S .denies) (L .denied) (L .beside deniedOf);
             };
             start-in = omega (arith, found .0);
             before = before;
+            known = L .known;
           }

@@ -5,12 +5,13 @@ ghost use mathlib.Core.Bool.{_&&_};
 ghost use Prim.Native.Nat.{_<_};
 ghost use lib.Dec.{eqb};
 ghost use Rattle.rules.specs.Count.{allUpTo};
-ghost use Rattle.rules.specs.Settings.{startOf, initialOf};
+ghost use Rattle.rules.specs.Settings.{setup, startOf, initialOf};
 ghost use Rattle.rules.specs.Held.{freeOf, recordAt};
 ghost use Rattle.rules.specs.Bid.{priceAt, beforeAt};
 ghost use Rattle.rules.specs.Standing.{recordZero, asOpened, nothingKept, openStands, endStands, phaseStands};
 ghost use Rattle.rules.specs.Layout.{loaded};
 ghost use Rattle.book.specs.Lent.{Long, Lent};
+ghost use Rattle.held.specs.Sums.{AllKept, Summed, Counted};
 
 fn no_records(s: &[u8]) -> bool
     requires { ⌜ Long (now s) ⌝ }
@@ -27,7 +28,7 @@ fn no_records(s: &[u8]) -> bool
 
 fn free_is_initial(s: &[u8]) -> bool
     requires { ⌜ Long (now s) ⌝ }
-    ensures { λ r. ⌜ r ≡ allUpTo (λ b. eqb (freeOf (loaded (now (s .entry))) b) (initialOf (loaded (now (s .entry)) .terms) b)) 32 ⌝ }
+    ensures { λ r. ⌜ r ≡ allUpTo (λ b. eqb (freeOf (loaded (now (s .entry))) b) (initialOf (setup (loaded (now (s .entry)))) b)) 32 ⌝ }
 {
     let mut ok = true;
     let mut b: usize = 0;
@@ -42,7 +43,7 @@ fn free_is_initial(s: &[u8]) -> bool
 
 fn at_start(s: &[u8], p: usize) -> bool
     requires { ⌜ Long (now s) × (p < 8) ⌝ }
-    ensures { λ r. ⌜ r ≡ (eqb (priceAt (loaded (now (s .entry))) p) (startOf (loaded (now (s .entry)) .terms) p) && eqb (beforeAt (loaded (now (s .entry))) p) (startOf (loaded (now (s .entry)) .terms) p)) ⌝ }
+    ensures { λ r. ⌜ r ≡ (eqb (priceAt (loaded (now (s .entry))) p) (startOf (setup (loaded (now (s .entry)))) p) && eqb (beforeAt (loaded (now (s .entry))) p) (startOf (setup (loaded (now (s .entry)))) p)) ⌝ }
 {
     let start = book::start(s, p).amount();
     (book::price(s, p).amount() == start) & (book::before(s, p).amount() == start)
@@ -50,7 +51,7 @@ fn at_start(s: &[u8], p: usize) -> bool
 
 fn prices_at_start(s: &[u8]) -> bool
     requires { ⌜ Long (now s) ⌝ }
-    ensures { λ r. ⌜ r ≡ allUpTo (λ p. eqb (priceAt (loaded (now (s .entry))) p) (startOf (loaded (now (s .entry)) .terms) p) && eqb (beforeAt (loaded (now (s .entry))) p) (startOf (loaded (now (s .entry)) .terms) p)) 8 ⌝ }
+    ensures { λ r. ⌜ r ≡ allUpTo (λ p. eqb (priceAt (loaded (now (s .entry))) p) (startOf (setup (loaded (now (s .entry)))) p) && eqb (beforeAt (loaded (now (s .entry))) p) (startOf (setup (loaded (now (s .entry)))) p)) 8 ⌝ }
 {
     let mut ok = true;
     let mut p: usize = 0;
@@ -70,56 +71,56 @@ fn as_opened(s: &[u8]) -> bool
 }
 
 // "In an open round 2 nothing is kept, which standing requires."
-fn nothing_kept(s: &[u8]) -> bool
-    requires { ⌜ Lent (now s) ⌝ }
+fn nothing_kept(s: &[u8], kept: &[u32; 8]) -> bool
+    requires { ⌜ Lent (now s) × AllKept (loaded (now s)) (now kept) ⌝ }
     ensures { λ r. ⌜ r ≡ nothingKept (loaded (now (s .entry))) ⌝ }
 {
     let m = book::products(s);
     let mut ok = true;
     let mut p: usize = 0;
     while p < m {
-        ok = ok & (held::kept_on(s, p) == 0);
+        ok = ok & (kept[p] == 0);
         p += 1;
     }
     ok
 }
 
 // "open later rounds have excess above 0"
-fn open_stands(s: &[u8]) -> bool
-    requires { ⌜ Lent (now s) ⌝ }
+fn open_stands(s: &[u8], held: &[u32; 8], kept: &[u32; 8]) -> bool
+    requires { ⌜ Counted (now s) (now held) (now kept) ⌝ }
     ensures { λ r. ⌜ r ≡ openStands (loaded (now (s .entry))) ⌝ }
 {
     let round = book::round(s);
     if round == 1 {
         return as_opened(s);
     }
-    let over = held::excess(s) > 0;
+    let over = held::excess_by(s, held) > 0;
     if round == 2 {
-        return over & nothing_kept(s);
+        return over & nothing_kept(s, kept);
     }
     over
 }
 
 // "closed and stopped states meet step 5 and hold no cards"
-fn end_stands(s: &[u8]) -> bool
-    requires { ⌜ Lent (now s) ⌝ }
+fn end_stands(s: &[u8], held: &[u32; 8]) -> bool
+    requires { ⌜ Summed (now s) (now held) ⌝ }
     ensures { λ r. ⌜ r ≡ endStands (loaded (now (s .entry))) ⌝ }
 {
     let none = book::filed(s) == 0;
     let phase = book::phase(s);
-    let excess = held::excess(s);
+    let excess = held::excess_by(s, held);
     if phase == 2 {
         return none & (excess == 0);
     }
-    none & ((phase == 3) & ((excess > 0) & held::stops(s)))
+    none & ((phase == 3) & ((excess > 0) & held::stops_by(s, held)))
 }
 
-pub fn phase_stands(s: &[u8]) -> bool
-    requires { ⌜ Lent (now s) ⌝ }
+pub fn phase_stands(s: &[u8], held: &[u32; 8], kept: &[u32; 8]) -> bool
+    requires { ⌜ Counted (now s) (now held) (now kept) ⌝ }
     ensures { λ r. ⌜ r ≡ phaseStands (loaded (now (s .entry))) ⌝ }
 {
     if book::phase(s) == 1 {
-        return open_stands(s);
+        return open_stands(s, held, kept);
     }
-    end_stands(s)
+    end_stands(s, held)
 }

@@ -3,10 +3,7 @@ ghost use mathlib.Core.Path.{_≡_};
 ghost use mathlib.Core.Bool.{cond};
 ghost use Prim.Native.Nat.{ℕ, _*_, _/_, _<_};
 ghost use lib.Dec.{leb};
-ghost use Rattle.rules.specs.Units.{priceOf, quote};
-ghost use Rattle.rules.specs.Settings.{targetOf};
-ghost use Rattle.rules.specs.Held.{standingOf};
-ghost use Rattle.rules.specs.Bid.{priceAt, beforeAt};
+ghost use Rattle.rules.specs.Units.{priceOf};
 ghost use Rattle.rules.specs.Price.{decrementUpTo, nextPrice, nextBefore};
 ghost use Rattle.rules.specs.Round.{opensAt};
 ghost use Rattle.rules.specs.Layout.{loaded, stored};
@@ -39,7 +36,7 @@ fn or_row(row: Row, percent: u64, found: BasisPoints) -> BasisPoints
 // "its decrement is that of the last row not above it"
 fn decrement(s: &[u8], percent: u64) -> BasisPoints
     requires { ⌜ Lent (now s) ⌝ }
-    ensures { λ r. ⌜ r .0 ≡ decrementUpTo (loaded (now (s .entry)) .terms) percent (loaded (now (s .entry)) .terms .rows) ⌝ }
+    ensures { λ r. ⌜ r .0 ≡ decrementUpTo (loaded (now (s .entry)) .decrements) percent (loaded (now (s .entry)) .decrements .rows) ⌝ }
 {
     let n = book::rows(s);
     let mut found = BasisPoints(0);
@@ -54,7 +51,7 @@ fn decrement(s: &[u8], percent: u64) -> BasisPoints
 // "Next price of a product above target"; "Other prices stay."
 fn next_price(s: &[u8], standing: i32, target: Tranches, price: Price) -> Price
     requires { ⌜ Lent (now s) ⌝ }
-    ensures { λ r. ⌜ ((u m : ℕ) → price ≡ priceOf u m → r ≡ priceOf u (nextPrice (loaded (now (s .entry)) .terms) standing (target .0) m)) ⌝ }
+    ensures { λ r. ⌜ ((u m : ℕ) → price ≡ priceOf u m → r ≡ priceOf u (nextPrice (loaded (now (s .entry)) .decrements) standing (target .0) m)) ⌝ }
 {
     if standing > 0 {
         return price.fall(decrement(s, percentage(held::above_zero(standing), target)));

@@ -14,7 +14,7 @@ use Rattle.rules.specs.declared.Auction.{Auction}
 use Rattle.rules.specs.Count.{sumUpTo}
 use Rattle.rules.specs.Units.{tranches, amountOf, priceOf, quote}
 use Rattle.rules.specs.Answers.{bidsOpen, closed, stopped}
-use Rattle.rules.specs.Settings.{termsOf, targetOf}
+use Rattle.rules.specs.Settings.{setup, termsOf, setupOf, targetOf}
 use Rattle.rules.specs.Held.{heldIn, recordAt, held}
 use Rattle.rules.specs.Bid.{bidIn, recordOf, bidOn}
 use Rattle.rules.specs.Report.{paidOn, resultOf}
@@ -36,7 +36,7 @@ use Rattle.rules.proofs.OneCall.{stood, of-standing, open-stands, open-loaded, 
 use Rattle.promises.specs.Runs.{Call, opens, files, counts, calculates, cuts, reports, results, reads, writes, suggests, after, run, openedBy, filledPart, Round, roundOf, Cutback, cutbacks, settingsAfter}
 use Rattle.promises.specs.Awards.{Closed, awardOn, paidFor}
 use Rattle.promises.proofs.Offers.{closed-within}
-use Rattle.promises.proofs.Steps.{Step, same, card, round, cut, step, some-none, after-stands, run-later, run-keeps, parts-later, opened-stands, opened-terms, opened-keeps, in-use}
+use Rattle.promises.proofs.Steps.{Step, same, card, round, cut, step, some-none, after-stands, run-later, run-keeps, parts-later, opened-stands, opened-settings, opened-terms, in-use}
 use Rattle.promises.specs.Demands.{ClosingBid}
 
 -- ---- the result of a closed state
@@ -78,12 +78,12 @@ module _ (s : List ℕ) (S : StandsIn s) (c : Closed s) where
 
   -- no award passes a target
   awards-within : (p : ℕ) → p < loaded s .terms .products
-      → sumUpTo (λ b. awardOn s b p) (loaded s .terms .bidders) ≤ targetOf (loaded s .terms) p
+      → sumUpTo (λ b. awardOn s b p) (loaded s .terms .bidders) ≤ targetOf (setup (loaded s)) p
   awards-within p hp = omega (arith, awards-are p hp, closed-within (loaded s) (stood s S) c p hp)
 
   -- a product that is filled is awarded its target
-  awards-filled : (p : ℕ) → p < loaded s .terms .products → targetOf (loaded s .terms) p ≤ filledPart (loaded s) p
-      → sumUpTo (λ b. awardOn s b p) (loaded s .terms .bidders) ≡ targetOf (loaded s .terms) p
+  awards-filled : (p : ℕ) → p < loaded s .terms .products → targetOf (setup (loaded s)) p ≤ filledPart (loaded s) p
+      → sumUpTo (λ b. awardOn s b p) (loaded s .terms .bidders) ≡ targetOf (setup (loaded s)) p
   awards-filled p hp f = omega (arith, awards-are p hp, awards-within p hp)
 
 -- ---- where bids are not open, no call changes the state
@@ -168,7 +168,7 @@ module _ (s : List ℕ) (S : StandsIn s) (o : isOpen (loaded s) ≡ true) where
       let l = calculate-loaded s S draw n in
       let d = calculate-accepts s S draw n in
       let k = round-closes (loaded s) draw (stood s S) (loaded-long s) (d .0) (d .1) (bids-accepted (loaded s) (stood s S) o) (rw l at w) in
-      let t : loaded q .terms ≡ loaded s .terms = run-later s S (calculates draw ∷ []) refl .terms in
+      let t : loaded q .terms ≡ loaded s .terms = ap (λ t. t .terms) (run-later s S (calculates draw ∷ []) refl .settings) in
       let m = ap (λ t. t .products) t in
       let b = ap (λ t. t .bidders) t in
       record {
@@ -212,7 +212,7 @@ closes-by s S o (c ∷ cs) z = by (isOpen (loaded (after s c))) refl (λ o. clos
     by true e f k =
         let K = run-keeps s S (c ∷ []) in
         closing-later s c (loaded s .terms) cs
-        (closing-as (after s c) (loaded (after s c) .terms) (loaded s .terms) cs (sym (K .bidders)) (sym (K .products)) (f e z))
+        (closing-as (after s c) (loaded (after s c) .terms) (loaded s .terms) cs (sym (ap (λ t. t .bidders) (K .terms))) (sym (ap (λ t. t .products) (K .terms))) (f e z))
     by false e f (inl k) =
         absurd (not-closed (stood s S) (step s S c) k o (subst Closed (ended-stays (after s c) (after-stands s S c) e cs) z))
     by false e f (inr k) =
@@ -228,8 +228,8 @@ module _ (s : List ℕ) (x : Settings) (new : openNumber s x ≡ 0) (e : length 
   pub no-award-over-target : Closed (run (openedBy s x) cs) → (p : ℕ) → p < termsOf x .products
       → sumUpTo (λ b. awardOn (run (openedBy s x) cs) b p) (termsOf x .bidders) ≤ targetOf (settingsAfter s x cs) p
   no-award-over-target c p h =
-      let t = opened-terms s x new e r cs in
-      let n = ap (λ t. t .bidders) t ∙ opened-keeps s x new e r cs .bidders in
+      let t = opened-settings s x new e r cs in
+      let n = ap (λ t. t .bidders) (opened-terms s x new e r cs) in
       let g = ap (λ t. targetOf t p) t in
       let w = rw n at (awards-within _ (opened-stands s x new e r cs) c p (in-use s x new e r cs p h)) in
       omega arith
@@ -241,8 +241,8 @@ module _ (s : List ℕ) (x : Settings) (new : openNumber s x ≡ 0) (e : length 
       → sumUpTo (λ b. awardOn (run (openedBy s x) (cs ++ ds)) b p) (termsOf x .bidders) ≡ targetOf (settingsAfter s x cs) p
   once-filled ds u c p h f =
       let A = parts-later (openedBy s x) (open-stands s x new e r) cs ds u in
-      let t = A .terms ∙ opened-terms s x new e r cs in
-      let n = ap (λ t. t .bidders) t ∙ opened-keeps s x new e r cs .bidders in
+      let t = A .settings ∙ opened-settings s x new e r cs in
+      let n = ap (λ t. t .terms .bidders) (A .settings) ∙ ap (λ t. t .bidders) (opened-terms s x new e r cs) in
       let g = ap (λ t. targetOf t p) t in
       let w = rw n at (awards-filled _ (opened-stands s x new e r (cs ++ ds)) c p (in-use s x new e r (cs ++ ds) p h)
       (omega (arith, A .filled p (in-use s x new e r cs p h)))) in
@@ -250,7 +250,7 @@ module _ (s : List ℕ) (x : Settings) (new : openNumber s x ≡ 0) (e : length 
 
   -- "each bidder wins in total at least what its closing bid asked"
   pub closing-bid : Closed (run (openedBy s x) cs) → ClosingBid (openedBy s x) (termsOf x) cs
-  unfolding opened
+  unfolding opened setupOf
   closing-bid c =
       let l = open-loaded s x new e r in
       subst (λ t. ClosingBid (openedBy s x) t cs) (ap (λ a. a .terms) l)

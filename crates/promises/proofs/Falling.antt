@@ -10,7 +10,7 @@ use lib.ListN.{length}
 use lib.Dec.{ltb}
 use Rattle.rules.specs.declared.Settings.{Settings}
 use Rattle.rules.specs.declared.Auction.{Auction}
-use Rattle.rules.specs.Settings.{termsOf, targetOf, startOf}
+use Rattle.rules.specs.Settings.{setup, termsOf, setupOf, targetOf, startOf}
 use Rattle.rules.specs.Held.{held}
 use Rattle.rules.specs.Bid.{priceAt, beforeAt}
 use Rattle.rules.specs.Round.{calculated}
@@ -24,7 +24,7 @@ use Rattle.rules.specs.OneCall.{PriceAfter, StandsIn}
 use Rattle.rules.proofs.Round.{round-prices}
 use Rattle.rules.proofs.OneCall.{stood, open-stands, calculate-accepts, calculate-loaded}
 use Rattle.promises.specs.Runs.{Call, after, run, openedBy, Round, Cutback, cutbackOf, cutbacks}
-use Rattle.promises.proofs.Steps.{Step, same, card, round, cut, step, some-none, opened-stands, opened-terms, opened-keeps, in-use, parts-later}
+use Rattle.promises.proofs.Steps.{Step, same, card, round, cut, step, some-none, opened-stands, opened-settings, opened-keeps, in-use, parts-later}
 
 -- ---- one calculation
 
@@ -36,9 +36,9 @@ module _ (s : List ℕ) (S : StandsIn s) (draw : List ℕ) (n : calculateNumber 
       (round-prices (loaded s) draw (stood s S) (loaded-long s) (o .0) (o .1) (bids-accepted (loaded s) (stood s S) (o .0)) p h)
 
   falls-by : isOpen (loaded (calculateCall s draw .bytes)) ≡ true → (t : Bool)
-      → ltb (targetOf (loaded s .terms) p) (held (loaded (calculateCall s draw .bytes) .records) (loaded s .terms .bidders) p) ≡ t
+      → ltb (targetOf (setup (loaded s)) p) (held (loaded (calculateCall s draw .bytes) .records) (loaded s .terms .bidders) p) ≡ t
       → priceAt (loaded (calculateCall s draw .bytes)) p < priceAt (loaded s) p
-      → targetOf (loaded s .terms) p < held (loaded (calculateCall s draw .bytes) .records) (loaded s .terms .bidders) p
+      → targetOf (setup (loaded s)) p < held (loaded (calculateCall s draw .bytes) .records) (loaded s .terms .bidders) p
   falls-by o true e l = ltb-true _ _ e
   falls-by o false e l = absurd (let x : ⊥ = omega (arith, priced .stayed o (ltb-false _ _ e)) in x)
 
@@ -46,7 +46,7 @@ module _ (s : List ℕ) (S : StandsIn s) (draw : List ℕ) (n : calculateNumber 
   -- more than the target is held
   pub price-falls : isOpen (loaded (calculateCall s draw .bytes)) ≡ true
       → (priceAt (loaded (calculateCall s draw .bytes)) p < priceAt (loaded s) p)
-      ↔ (targetOf (loaded s .terms) p < held (loaded (calculateCall s draw .bytes) .records) (loaded s .terms .bidders) p)
+      ↔ (targetOf (setup (loaded s)) p < held (loaded (calculateCall s draw .bytes) .records) (loaded s .terms .bidders) p)
   price-falls o = (falls-by o _ refl, λ l. priced .fell o l .0)
 
 -- ---- any call but an accepted cutback, whose prices are worked out afresh
@@ -57,7 +57,7 @@ FallsOrStays a z p =
     ((priceAt z p < priceAt a p) × (beforeAt z p ≡ priceAt a p)) ⊎ ((priceAt z p ≡ priceAt a p) × (beforeAt z p ≡ beforeAt a p))
 
 after-by : (a z : Auction) (p : ℕ) → PriceAfter a z p → (t u : Bool) → isOpen z ≡ t
-    → ltb (targetOf (a .terms) p) (held (z .records) (a .terms .bidders) p) ≡ u → FallsOrStays a z p
+    → ltb (targetOf (setup a) p) (held (z .records) (a .terms .bidders) p) ≡ u → FallsOrStays a z p
 after-by a z p A true true e f = inl (A .fell e (ltb-true _ _ f))
 after-by a z p A true false e f = inr (A .stayed e (ltb-false _ _ f))
 after-by a z p A false u e f = inr (A .ended e)
@@ -88,10 +88,10 @@ module _ (s : List ℕ) (x : Settings) (new : openNumber s x ≡ 0) (e : length 
   pub price-within : (p : ℕ) → p < termsOf x .products
       → (1 ≤ priceAt (loaded (run (openedBy s x) cs)) p)
       × (priceAt (loaded (run (openedBy s x) cs)) p ≤ beforeAt (loaded (run (openedBy s x) cs)) p)
-      × (beforeAt (loaded (run (openedBy s x) cs)) p ≤ startOf (termsOf x) p)
+      × (beforeAt (loaded (run (openedBy s x) cs)) p ≤ startOf (setupOf x) p)
   price-within p h =
       let S = opened-stands s x new e r cs in
       let i = in-use s x new e r cs p h in
-      let t = ap (λ t. startOf t p) (opened-terms s x new e r cs)
+      let t = ap (λ t. startOf t p) (opened-settings s x new e r cs)
       ∙ opened-keeps s x new e r cs .start p (omega (arith, stood _ S .limits .products)) in
       omega (arith, stood _ S .prices p i)

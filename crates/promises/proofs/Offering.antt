@@ -4,13 +4,13 @@ use mathlib.Core.Path.{_≡_, refl, _∙_, ap}
 use mathlib.Core.List.{List, [], _∷_, _++_, append-nil, append-assoc}
 use Prim.Native.Nat.{ℕ, _+_, _≤_, _<_}
 use native.Mathlib.Omega.{arith}
-use lib.ListN.{length, getD}
+use lib.ListN.{length}
 use Rattle.rules.specs.declared.Settings.{Settings}
-use Rattle.rules.specs.declared.Terms.{Terms}
+use Rattle.rules.specs.declared.Setup.{Setup}
 use Rattle.rules.specs.declared.Auction.{Auction}
 use Rattle.rules.specs.Count.{sumUpTo}
-use Rattle.rules.specs.Units.{tranches}
-use Rattle.rules.specs.Settings.{termsOf, initialOf}
+use Rattle.rules.specs.Parts.{tranchesAt}
+use Rattle.rules.specs.Settings.{setup, termsOf, setupOf, initialOf}
 use Rattle.rules.specs.Held.{nothing, goingIn, deniedIn, retainedIn, eligibility, place}
 use Rattle.rules.specs.Bid.{bidIn, withdrawnIn as withdrawnOn, reduction, increase, recordOf, bidOn}
 use Rattle.rules.specs.Round.{calculated}
@@ -20,9 +20,9 @@ use Rattle.rules.specs.Calls.{opened, openNumber, withCard}
 use Rattle.rules.specs.Stands.{Stands, Long}
 use Rattle.rules.proofs.Sums.{sum-ext, sum-le, sum-six, sum-add, sum-zero}
 use Rattle.rules.proofs.Storing.{loaded-long}
-use Rattle.rules.proofs.Opening.{blank}
+use Rattle.rules.proofs.Opening.{blank, opened-free}
 use Rattle.rules.proofs.Bids.{bids-accepted}
-use Rattle.rules.proofs.Round.{round-terms, round-eligibility}
+use Rattle.rules.proofs.Round.{round-setup, round-eligibility}
 use Rattle.rules.proofs.Cutback.{cut-only}
 use Rattle.rules.specs.OneCall.{StandsIn}
 use Rattle.rules.proofs.OneCall.{stood, open-stands, open-loaded}
@@ -30,7 +30,7 @@ use Rattle.promises.specs.Runs.{Call, after, run, openedBy, Round, round
 use Rattle.promises.specs.Offered.{OnOffer, noOffer, offeredFrom, onOffer, inRounds, givenUp, withdrawnIn}
 use Rattle.promises.specs.Awards.{Closed, awardOn}
 use Rattle.promises.specs.Demands.{AwardOffered, AwardedOnce}
-use Rattle.promises.proofs.Steps.{Step, same, card, round, cut, step, after-stands, run-keeps, opened-stands, opened-terms, opened-keeps, in-use, bidding}
+use Rattle.promises.proofs.Steps.{Step, same, card, round, cut, step, after-stands, run-keeps, opened-stands, opened-settings, opened-terms, opened-keeps, in-use, bidding}
 use Rattle.promises.proofs.Offers.{Backed, round-backed, round-retained, cut-backed, closed-free, going-paid, denied-paid, retained-paid}
 use Rattle.promises.proofs.Closing.{award-is, paid-is}
 
@@ -58,14 +58,14 @@ step-backed S L (card c ls) o b p B = λ hb hp. let K = B hb hp in record {
   exit = K .exit;
 }
 step-backed {a} S L (cut targets caps u m) o b p B = λ hb hp.
-    let t = cut-only a targets caps S u m .terms in
-    let n = ap (λ t. t .bidders) t in
-    let k = ap (λ t. t .products) t in
+    let t = cut-only a targets caps S u m .settings in
+    let n = ap (λ t. t .terms .bidders) t in
+    let k = ap (λ t. t .terms .products) t in
     cut-backed a targets caps S u m b p (omega arith) (omega arith) o (B (omega arith) (omega arith))
 step-backed {a} S L (round draw u D) o b p B = λ hb hp.
-    let t = round-terms a draw S L u D (bids-accepted a S u) in
-    let n = ap (λ t. t .bidders) t in
-    let k = ap (λ t. t .products) t in
+    let t = round-setup a draw S L u D (bids-accepted a S u) in
+    let n = ap (λ t. t .terms .bidders) t in
+    let k = ap (λ t. t .terms .products) t in
     round-backed a draw S L u D (bids-accepted a S u) b p (omega arith) (omega arith) o (B (omega arith) (omega arith))
 
 run-backed : (s : List ℕ) → StandsIn s → (cs : List Call) (o : OnOffer) (b p : ℕ) → BackedBy o (loaded s) b p
@@ -77,7 +77,7 @@ run-backed s S (c ∷ cs) o b p B =
     (step-backed (stood s S) (loaded-long s) (step s S c) o b p B))
 
 -- before round 1 nothing is held
-opened-backed : (t : Terms) (b p : ℕ) → Backed noOffer (opened t) b p
+opened-backed : (t : Setup) (b p : ℕ) → Backed noOffer (opened t) b p
 unfolding opened
 opened-backed t b p =
     let e = blank nothing 256 (place b p) in
@@ -102,7 +102,7 @@ rounds-on f (r ∷ rs) qs = let e = rounds-on f rs qs in omega arith
 
 -- what bidder b has and what it gave up are its initial eligibility; its retained withdrawals are of those withdrawn
 record Once (past : List Round) (a : Auction) (b : ℕ) : Type 0 where
-  whole : eligibility a b + inRounds (givenUp b) past ≡ initialOf (a .terms) b
+  whole : eligibility a b + inRounds (givenUp b) past ≡ initialOf (setup a) b
   retained : sumUpTo (λ p. retainedIn (recordOf a b p)) (a .terms .products) ≤ inRounds (withdrawnIn b) past
   withdrawn : inRounds (withdrawnIn b) past ≤ inRounds (givenUp b) past
 
@@ -114,8 +114,8 @@ step-once S L (card c ls) past b hb O = rw append-nil (record { whole = O .whole
 step-once {a} S L (cut targets caps u m) past b hb O =
     let C = cut-only a targets caps S u m in
     let z : Auction = cutBack a targets caps in
-    let i = ap (λ t. initialOf t b) (C .terms) in
-    let k = ap (λ t. sumUpTo (λ p. retainedIn (recordOf z b p)) (t .products)) (C .terms) in
+    let i = ap (λ t. initialOf t b) (C .settings) in
+    let k = ap (λ t. sumUpTo (λ p. retainedIn (recordOf z b p)) (t .terms .products)) (C .settings) in
     let q = sum-ext (λ p. retainedIn (recordOf z b p)) (λ p. retainedIn (recordOf a b p)) (a .terms .products)
     (λ p hp. C .retained b p (omega (arith, S .limits .bidders)) (omega (arith, S .limits .products))) in
     rw append-nil (record { whole = omega (arith, O .whole, C .eligible b hb); retained = omega (arith, O .retained); withdrawn = O .withdrawn })
@@ -124,9 +124,9 @@ step-once {a} S L (round draw u D) past b hb O =
     let r : Round = record { auction = a; draw = draw } in
     let z : Auction = calculated a draw .auction in
     let m = a .terms .products in
-    let t = round-terms a draw S L u D A in
+    let t = round-setup a draw S L u D A in
     let i = ap (λ t. initialOf t b) t in
-    let k = ap (λ t. sumUpTo (λ p. retainedIn (recordOf z b p)) (t .products)) t in
+    let k = ap (λ t. sumUpTo (λ p. retainedIn (recordOf z b p)) (t .terms .products)) t in
     let g = rounds-on (givenUp b) past (r ∷ []) in
     let w = rounds-on (withdrawnIn b) past (r ∷ []) in
     let e = round-eligibility a draw S L u D A b hb in
@@ -149,24 +149,24 @@ run-once s S [] past b hb O = rw append-nil O
 run-once s S (c ∷ cs) past b hb O =
     rw (← append-assoc past (roundOf s c) (rounds (after s c) cs))
     (run-once (after s c) (after-stands s S c) cs (past ++ roundOf s c) b
-    (let n = run-keeps s S (c ∷ []) .bidders in omega arith)
+    (let n = ap (λ t. t .bidders) (run-keeps s S (c ∷ []) .terms) in omega arith)
     (step-once (stood s S) (loaded-long s) (step s S c) past b hb O))
 
-opened-bidder : (t : Terms) (b : ℕ) → b < t .bidders → b < opened t .terms .bidders
+opened-bidder : (t : Setup) (b : ℕ) → b < t .terms .bidders → b < opened t .terms .bidders
 unfolding opened
 opened-bidder t b h = h
 
 -- before round 1 nothing is held, and all of it is free
-opened-once : (t : Terms) (b : ℕ) → Once [] (opened t) b
+opened-once : (t : Setup) (b : ℕ) → b < 32 → Once [] (opened t) b
 unfolding opened
-opened-once t b =
-    let w = sum-ext (λ p. goingIn (recordOf (opened t) b p) + deniedIn (recordOf (opened t) b p)) (λ p. 0) (t .products) (λ p _.
+opened-once t b h =
+    let w = sum-ext (λ p. goingIn (recordOf (opened t) b p) + deniedIn (recordOf (opened t) b p)) (λ p. 0) (t .terms .products) (λ p _.
     let e = blank nothing 256 (place b p) in
     let g = ap goingIn e in
     let d = ap deniedIn e in
     omega arith) in
-    let r = sum-ext (λ p. retainedIn (recordOf (opened t) b p)) (λ p. 0) (t .products) (λ p _. ap retainedIn (blank nothing 256 (place b p))) in
-    record { whole = omega (arith, sum-zero (t .products)); retained = omega (arith, sum-zero (t .products)); withdrawn = omega arith }
+    let r = sum-ext (λ p. retainedIn (recordOf (opened t) b p)) (λ p. 0) (t .terms .products) (λ p _. ap retainedIn (blank nothing 256 (place b p))) in
+    record { whole = omega (arith, sum-zero (t .terms .products), opened-free t b h); retained = omega (arith, sum-zero (t .terms .products)); withdrawn = omega arith }
 
 -- ---- from an opening
 
@@ -188,7 +188,7 @@ module _ (s : List ℕ) (x : Settings) (new : openNumber s x ≡ 0) (e : length 
       let nb = bidding s x new e r cs b hb in
       let np = in-use s x new e r cs p hp in
       let K = run-backed (openedBy s x) (open-stands s x new e r) cs noOffer b p
-      (rw (open-loaded s x new e r) (λ _ _. opened-backed (termsOf x) b p)) nb np in
+      (rw (open-loaded s x new e r) (λ _ _. opened-backed (setupOf x) b p)) nb np in
       let q = paid-is end stands c p np in
       let S = stood end stands in
       record {
@@ -208,15 +208,16 @@ module _ (s : List ℕ) (x : Settings) (new : openNumber s x ≡ 0) (e : length 
   within-offers b p hb hp = omega (arith, every-award-offered b p hb hp)
 
   -- over all products, each tranche of a bidder's initial eligibility is awarded once or given up once
-  pub awarded-once : (b : ℕ) → b < termsOf x .bidders → AwardedOnce (termsOf x) (rounds (openedBy s x) cs) (run (openedBy s x) cs) b
+  pub awarded-once : (b : ℕ) → b < termsOf x .bidders → AwardedOnce (setupOf x) (rounds (openedBy s x) cs) (run (openedBy s x) cs) b
+  unfolding setupOf
   awarded-once b hb =
       let nb = bidding s x new e r cs b hb in
-      let t = opened-terms s x new e r cs in
+      let t = opened-settings s x new e r cs in
       let k = opened-keeps s x new e r cs in
-      let O = run-once (openedBy s x) (open-stands s x new e r) cs [] b (rw (open-loaded s x new e r) (opened-bidder (termsOf x) b hb))
-      (rw (open-loaded s x new e r) (opened-once (termsOf x) b)) in
-      let m = ap (λ t. t .products) t ∙ k .products in
-      let i = ap (λ t. initialOf t b) t ∙ ap (λ l. getD l b (tranches 0) .0) (k .eligibility) in
+      let O = run-once (openedBy s x) (open-stands s x new e r) cs [] b (rw (open-loaded s x new e r) (opened-bidder (setupOf x) b hb))
+      (rw (open-loaded s x new e r) (opened-once (setupOf x) b (omega (arith, stood end stands .limits .bidders)))) in
+      let m = ap (λ t. t .products) (opened-terms s x new e r cs) in
+      let i = ap (λ t. initialOf t b) t ∙ ap (λ l. tranchesAt l b) (k .eligibility) in
       let p = ap (λ m. sumUpTo (λ p. goingIn (recordOf (loaded end) b p) + deniedIn (recordOf (loaded end) b p)) m) m in
       let q = ap (λ m. sumUpTo (λ p. retainedIn (recordOf (loaded end) b p)) m) m in
       let f = closed-free (loaded end) (stood end stands) c b nb in

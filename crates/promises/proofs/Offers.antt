@@ -10,7 +10,7 @@ use Rattle.rules.specs.declared.Tranches.{Tranches}
 use Rattle.rules.specs.declared.Place.{Place}
 use Rattle.rules.specs.declared.Auction.{Auction}
 use Rattle.rules.specs.Answers.{closed}
-use Rattle.rules.specs.Settings.{targetOf}
+use Rattle.rules.specs.Settings.{setup, targetOf}
 use Rattle.rules.specs.Held.{goingIn, deniedIn, retainedIn, exitIn, held, standingOf, aboveZero, ticked, freeOf, excess}
 use Rattle.rules.specs.Bid.{withdrawnIn, recordOf, priceAt, beforeAt, bidOn}
 use Rattle.rules.specs.Accept.{placeAt, keptOf, deem}
@@ -27,7 +27,7 @@ use Rattle.rules.proofs.Outbidding.{deemed-exact}
 use Rattle.rules.proofs.Made.{AllAccepted}
 use Rattle.rules.proofs.Booked.{Booked, kept-end, trail, unticked, fresh, booked}
 use Rattle.rules.proofs.Settled.{settled-held, settled-record}
-use Rattle.rules.proofs.Round.{round-terms, round-prices}
+use Rattle.rules.proofs.Round.{round-setup, round-prices}
 use Rattle.rules.proofs.Cutback.{cut-only, cut-price}
 use Rattle.promises.specs.Runs.{Round}
 use Rattle.promises.specs.Offered.{OnOffer, increaseLeft, offeringBy, offering}
@@ -39,7 +39,7 @@ pub record Backed (o : OnOffer) (a : Auction) (b p : ℕ) : Type 0 where
   pub retained : retainedIn (recordOf a b p) ≤ o .withdrawn
   pub own : o .bid + o .switched + o .withdrawn ≤ o .ever
   pub price : 0 < goingIn (recordOf a b p)
-      → (o .price ≤ beforeAt a p) × (held (a .records) (a .terms .bidders) p ≤ targetOf (a .terms) p → o .price ≤ priceAt a p)
+      → (o .price ≤ beforeAt a p) × (held (a .records) (a .terms .bidders) p ≤ targetOf (setup a) p → o .price ≤ priceAt a p)
   pub before : 0 < deniedIn (recordOf a b p) → o .before ≤ beforeAt a p
   pub exit : 0 < retainedIn (recordOf a b p) → o .exit ≡ exitIn (recordOf a b p)
 
@@ -86,15 +86,15 @@ module _ (a : Auction) (draw : List ℕ) (S : Stands a) (L : Long a) (op : isOpe
       ∙ ap (λ q. deemIf (ticked a q) at2) e
 
   -- what is kept at the end is kept where held equals target
-  met : 0 < keptOf at4 → held (z .records) n p ≡ targetOf (a .terms) p
+  met : 0 < keptOf at4 → held (z .records) n p ≡ targetOf (setup a) p
   unfolding calculated
   met h =
       let x = sum-ge (λ b. keptOf (placeAt (afterStep4 a draw (afterStep2 a draw .places) .places) (b * 8 + p))) n b hb in
       settled-held a _ S B p hp ∙ B .kept p hp (omega arith) .1
 
   -- this round's price is at most the next price before, and the next price where the product is not above target
-  price-for : (s u : Bool) → isOpen z ≡ s → ltb (targetOf (a .terms) p) (held (z .records) n p) ≡ u
-      → (priceAt a p ≤ beforeAt z p) × (held (z .records) n p ≤ targetOf (a .terms) p → priceAt a p ≤ priceAt z p)
+  price-for : (s u : Bool) → isOpen z ≡ s → ltb (targetOf (setup a) p) (held (z .records) n p) ≡ u
+      → (priceAt a p ≤ beforeAt z p) × (held (z .records) n p ≤ targetOf (setup a) p → priceAt a p ≤ priceAt z p)
   price-for false u e f =
       let x = round-prices a draw S L op D A p hp .ended e in
       let y = S .prices p hp in
@@ -109,7 +109,7 @@ module _ (a : Auction) (draw : List ℕ) (S : Stands a) (L : Long a) (op : isOpe
       (omega (arith, x, y), λ h. omega (arith, x))
 
   -- where held equals target the price before stays
-  before-for : held (z .records) n p ≡ targetOf (a .terms) p → (s : Bool) → isOpen z ≡ s → beforeAt z p ≡ beforeAt a p
+  before-for : held (z .records) n p ≡ targetOf (setup a) p → (s : Bool) → isOpen z ≡ s → beforeAt z p ≡ beforeAt a p
   before-for h true e = round-prices a draw S L op D A p hp .stayed e (omega arith) .1
   before-for h false e = round-prices a draw S L op D A p hp .ended e .1
 
@@ -175,18 +175,20 @@ module _ (a : Auction) (draw : List ℕ) (S : Stands a) (L : Long a) (op : isOpe
     pub round-backed : Backed (offering (record { auction = a; draw = draw }) b p o) (calculated a draw .auction) b p
     round-backed =
         let X = left-by (ticked a p) (increaseLeft r b p) refl refl deemed-is in
-        let t = round-terms a draw S L op D A in
+        let t = round-setup a draw S L op D A in
         let g = ap goingIn record-is in
         let d = ap deniedIn record-is in
         let q = ap retainedIn record-is in
         let x = ap exitIn record-is in
-        let v = price-for (isOpen z) (ltb (targetOf (a .terms) p) (held (z .records) n p)) refl refl in
+        let k = ap (λ u. held (z .records) (u .terms .bidders) p) t in
+        let u = ap (λ u. targetOf u p) t in
+        let v = price-for (isOpen z) (ltb (targetOf (setup a) p) (held (z .records) n p)) refl refl in
         record {
           going = omega (arith, X .going);
           denied = omega (arith, X .denied);
           retained = omega (arith, X .retained);
           own = X .own;
-          price = λ h. rw (t, X .price) v;
+          price = λ h. rw (X .price) (v .0, λ l. v .1 (omega arith));
           before = λ h. let w = before-for (met (omega arith)) (isOpen z) refl in omega (arith, X .before (omega arith));
           exit = λ h. X .exit (omega arith) ∙ sym x;
         }
@@ -199,12 +201,12 @@ module _ (a : Auction) (targets caps : List Tranches) (S : Stands a) (op : isOpe
   cut = cutBack a targets caps
 
   -- q is the starting price, and p too where the product is not above its revised target
-  start-for : (s : Bool) → isOpen cut ≡ s → held (cut .records) (cut .terms .bidders) p ≤ targetOf (cut .terms) p
+  start-for : (s : Bool) → isOpen cut ≡ s → held (cut .records) (cut .terms .bidders) p ≤ targetOf (setup cut) p
       → priceAt cut p ≡ beforeAt cut p
   unfolding revised
   start-for true e h =
       let P = cut-price a targets caps S op M p hp in
-      let n = ap (λ t. held (cut .records) (t .bidders) p) (cut-only a targets caps S op M .terms) in
+      let n = ap (λ t. held (cut .records) (t .terms .bidders) p) (cut-only a targets caps S op M .settings) in
       P .stayed e (omega arith) ∙ sym (P .before)
   start-for false e h = let P = cut-price a targets caps S op M p hp in P .ended e ∙ sym (P .before)
 
@@ -253,16 +255,16 @@ closed-by x u f e g q t =
 module _ (a : Auction) (S : Stands a) where
   -- a closed auction holds no more than the target of any product
   pub closed-within : a .phase ≡ closed → (p : ℕ) → p < a .terms .products
-      → held (a .records) (a .terms .bidders) p ≤ targetOf (a .terms) p
+      → held (a .records) (a .terms .bidders) p ≤ targetOf (setup a) p
   closed-within c p hp =
-      let e = eqb-true (excess a) 0 (closed-by (a .phase) (openStands a) (eqb (a .filed) 0) (eqb (excess a) 0) _ c (S .phase)) in
+      let e = eqb-true (excess a) 0 (closed-by (a .phase) (openStands a) (eqb (a .cards .filed) 0) (eqb (excess a) 0) _ c (S .phase)) in
       let x = sum-ge (λ p. aboveZero (standingOf a p)) (a .terms .products) p hp in
-      omega (arith, above-zero (held (a .records) (a .terms .bidders) p) (targetOf (a .terms) p))
+      omega (arith, above-zero (held (a .records) (a .terms .bidders) p) (targetOf (setup a) p))
 
   -- nor any free eligibility
   pub closed-free : a .phase ≡ closed → (b : ℕ) → b < a .terms .bidders → freeOf a b ≡ 0
   closed-free c b hb =
-      let e = eqb-true (excess a) 0 (closed-by (a .phase) (openStands a) (eqb (a .filed) 0) (eqb (excess a) 0) _ c (S .phase)) in
+      let e = eqb-true (excess a) 0 (closed-by (a .phase) (openStands a) (eqb (a .cards .filed) 0) (eqb (excess a) 0) _ c (S .phase)) in
       omega (arith, sum-ge (freeOf a) (a .terms .bidders) b hb)
 
   module _ (b p : ℕ) (hb : b < a .terms .bidders) (hp : p < a .terms .products) where

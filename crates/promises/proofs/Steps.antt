@@ -10,23 +10,23 @@ use lib.Dec.{eqb}
 use Rattle.rules.specs.declared.Tranches.{Tranches}
 use Rattle.rules.specs.declared.Line.{Line}
 use Rattle.rules.specs.declared.Settings.{Settings}
-use Rattle.rules.specs.declared.Terms.{Terms}
+use Rattle.rules.specs.declared.Setup.{Setup}
 use Rattle.rules.specs.declared.Auction.{Auction}
-use Rattle.rules.specs.Settings.{termsOf, targetOf}
+use Rattle.rules.specs.Settings.{setup, termsOf, setupOf, targetOf}
 use Rattle.rules.specs.Held.{held}
 use Rattle.rules.specs.Bid.{priceAt}
 use Rattle.rules.specs.Round.{drawFits, calculated}
 use Rattle.rules.specs.Cutback.{mayCut, revised, cutBack}
 use Rattle.rules.specs.Layout.{loaded}
 use Rattle.rules.specs.Standing.{isOpen}
-use Rattle.rules.specs.Calls.{opened, openNumber, fileNumber, fileCall, withCard, calculateNumber, calculateCall, cutbackNumber, cutbackCall}
+use Rattle.rules.specs.Calls.{openNumber, fileNumber, fileCall, withCard, calculateNumber, calculateCall, cutbackNumber, cutbackCall}
 use Rattle.rules.specs.Stands.{Stands, Long}
 use Rattle.rules.proofs.Storing.{loaded-long}
 use Rattle.rules.proofs.Bids.{bids-accepted}
-use Rattle.rules.proofs.Round.{round-terms, round-filled, round-prices}
+use Rattle.rules.proofs.Round.{round-setup, round-filled, round-prices}
 use Rattle.rules.proofs.Cutback.{revised-target, revised-cap, revised-start, cut-numbers, cut-only}
 use Rattle.rules.specs.OneCall.{StandsIn}
-use Rattle.rules.proofs.OneCall.{stood, open-stands, open-loaded, open-standing, file-loaded, file-refused, file-stands, calculate-accepts, calculate-loaded, calculate-refused, calculate-stands, cutback-accepts, cutback-loaded, cutback-refused, cutback-stands}
+use Rattle.rules.proofs.OneCall.{stood, open-stands, open-setup, open-standing, file-loaded, file-refused, file-stands, calculate-accepts, calculate-loaded, calculate-refused, calculate-stands, cutback-accepts, cutback-loaded, cutback-refused, cutback-stands}
 use Rattle.promises.specs.Runs.{Call, opens, files, counts, calculates, cuts, reports, results, reads, writes, suggests, after, run, openedBy, filledPart, Round, roundOf, Cutback, cutbackOf, cutbacks, revisedBy, settingsAfter}
 use Rattle.promises.specs.Demands.{KeptBut}
 
@@ -94,31 +94,23 @@ module _ (s : List ℕ) (S : StandsIn s) where
 
 -- ---- settings that are kept but for targets and caps
 
-kept-same : (t : Terms) → KeptBut t t
+kept-same : (t : Setup) → KeptBut t t
 kept-same t = record {
-  unit = refl;
-  products = refl;
-  bidders = refl;
-  rows = refl;
-  statewide = refl;
+  terms = refl;
   eligibility = refl;
-  row = refl;
+  decrements = refl;
   start = λ p h. refl;
   target = λ p h. omega arith;
   cap = λ p h. omega arith;
 }
 
-kept-on : {t u v : Terms} → KeptBut t u → KeptBut u v → KeptBut t v
+kept-on : {t u v : Setup} → KeptBut t u → KeptBut u v → KeptBut t v
 kept-on A B =
-    let m = A .products in
+    let m = ap (λ t. t .products) (A .terms) in
     record {
-      unit = B .unit ∙ A .unit;
-      products = B .products ∙ A .products;
-      bidders = B .bidders ∙ A .bidders;
-      rows = B .rows ∙ A .rows;
-      statewide = B .statewide ∙ A .statewide;
+      terms = B .terms ∙ A .terms;
       eligibility = B .eligibility ∙ A .eligibility;
-      row = B .row ∙ A .row;
+      decrements = B .decrements ∙ A .decrements;
       start = λ p h. B .start p h ∙ A .start p h;
       target = λ p h. omega (arith, A .target p h, B .target p (omega arith));
       cap = λ p h. omega (arith, A .cap p h, B .cap p (omega arith));
@@ -126,20 +118,20 @@ kept-on A B =
 
 -- ---- what no call but a cutback undoes
 
--- z comes after a: the same terms; the filled part of no product is less, no price more
+-- z comes after a: the same settings; the filled part of no product is less, no price more
 pub record Later (a z : Auction) : Type 0 where
-  pub terms : z .terms ≡ a .terms
+  pub settings : setup z ≡ setup a
   pub filled : (p : ℕ) → p < a .terms .products → filledPart a p ≤ filledPart z p
   pub price : (p : ℕ) → p < a .terms .products → priceAt z p ≤ priceAt a p
 
 later-same : (a : Auction) → Later a a
-later-same a = record { terms = refl; filled = λ p h. omega arith; price = λ p h. omega arith }
+later-same a = record { settings = refl; filled = λ p h. omega arith; price = λ p h. omega arith }
 
 later-on : (a y z : Auction) → Later a y → Later y z → Later a z
 later-on a y z A B =
-    let e = ap (λ t. t .products) (A .terms) in
+    let e = ap (λ t. t .terms .products) (A .settings) in
     record {
-      terms = B .terms ∙ A .terms;
+      settings = B .settings ∙ A .settings;
       filled = λ p h. omega (arith, A .filled p h, B .filled p (omega arith));
       price = λ p h. omega (arith, A .price p h, B .price p (omega arith));
     }
@@ -151,15 +143,15 @@ some-none x xs e = let z : _≡_ {A = ℕ} 0 1 = cc in absurd (let f : ⊥ = ome
 step-later : {a z : Auction} {rs : List Round} {ks : List Cutback} → Stands a → Long a → Step a z rs ks → ks ≡ [] → Later a z
 unfolding withCard
 step-later {a} S L same e = later-same a
-step-later {a} S L (card b ls) e = record { terms = refl; filled = λ p h. omega arith; price = λ p h. omega arith }
+step-later {a} S L (card b ls) e = record { settings = refl; filled = λ p h. omega arith; price = λ p h. omega arith }
 step-later {a} S L (round draw o D) _ =
     let A = bids-accepted a S o in
-    let e = round-terms a draw S L o D A in
+    let e = round-setup a draw S L o D A in
     let r = calculated a draw .auction .records in
     record {
-      terms = e;
+      settings = e;
       filled = λ p h.
-          let n = ap (λ t. held r (t .bidders) p) e in
+          let n = ap (λ t. held r (t .terms .bidders) p) e in
           let t = ap (λ t. targetOf t p) e in
           omega (arith, round-filled a draw S L o D A p (filledPart a p) h (omega arith) (omega arith));
       price = λ p h. round-prices a draw S L o D A p h .no-rise;
@@ -168,28 +160,24 @@ step-later {a} S L (cut targets caps o m) e = some-none (record { targets = targ
 
 -- ---- the settings: a cutback revises targets and caps, and nothing else changes one
 
-step-terms : {a z : Auction} {rs : List Round} {ks : List Cutback} → Stands a → Long a → Step a z rs ks → z .terms ≡ revisedBy (a .terms) ks
+step-setup : {a z : Auction} {rs : List Round} {ks : List Cutback} → Stands a → Long a → Step a z rs ks → setup z ≡ revisedBy (setup a) ks
 unfolding withCard
-step-terms S L same = refl
-step-terms S L (card b ls) = refl
-step-terms {a} S L (round draw o D) = round-terms a draw S L o D (bids-accepted a S o)
-step-terms {a} S L (cut targets caps o m) = cut-only a targets caps S o m .terms
+step-setup S L same = refl
+step-setup S L (card b ls) = refl
+step-setup {a} S L (round draw o D) = round-setup a draw S L o D (bids-accepted a S o)
+step-setup {a} S L (cut targets caps o m) = cut-only a targets caps S o m .settings
 
-step-keeps : {a z : Auction} {rs : List Round} {ks : List Cutback} → Stands a → Long a → Step a z rs ks → KeptBut (a .terms) (z .terms)
+step-keeps : {a z : Auction} {rs : List Round} {ks : List Cutback} → Stands a → Long a → Step a z rs ks → KeptBut (setup a) (setup z)
 unfolding withCard revised
-step-keeps {a} S L same = kept-same (a .terms)
-step-keeps {a} S L (card b ls) = kept-same (a .terms)
-step-keeps {a} S L (round draw o D) = rw (round-terms a draw S L o D (bids-accepted a S o)) (kept-same (a .terms))
+step-keeps {a} S L same = kept-same (setup a)
+step-keeps {a} S L (card b ls) = kept-same (setup a)
+step-keeps {a} S L (round draw o D) = rw (round-setup a draw S L o D (bids-accepted a S o)) (kept-same (setup a))
 step-keeps {a} S L (cut targets caps o m) =
-    let t = a .terms in
-    rw (cut-only a targets caps S o m .terms) (record {
-      unit = refl;
-      products = refl;
-      bidders = refl;
-      rows = refl;
-      statewide = refl;
+    let t = setup a in
+    rw (cut-only a targets caps S o m .settings) (record {
+      terms = refl;
       eligibility = refl;
-      row = refl;
+      decrements = refl;
       start = λ p h. revised-start t targets caps p h;
       target = λ p h. omega (arith, cut-numbers a targets caps S o m p h, revised-target t targets caps p (omega (arith, S .limits .products)));
       cap = λ p h. omega (arith, cut-numbers a targets caps S o m p h, revised-cap t targets caps p (omega (arith, S .limits .products)));
@@ -207,19 +195,19 @@ pub run-stands : (s : List ℕ) → StandsIn s → (cs : List Call) → StandsIn
 run-stands s S [] = S
 run-stands s S (c ∷ cs) = run-stands (after s c) (after-stands s S c) cs
 
-revised-on : (t : Terms) (js ks : List Cutback) → revisedBy t (js ++ ks) ≡ revisedBy (revisedBy t js) ks
+revised-on : (t : Setup) (js ks : List Cutback) → revisedBy t (js ++ ks) ≡ revisedBy (revisedBy t js) ks
 revised-on t [] ks = refl
 revised-on t (j ∷ js) ks = revised-on (revised t (j .targets) (j .caps)) js ks
 
-pub run-terms : (s : List ℕ) → StandsIn s → (cs : List Call) → loaded (run s cs) .terms ≡ revisedBy (loaded s .terms) (cutbacks s cs)
-run-terms s S [] = refl
-run-terms s S (c ∷ cs) =
-    run-terms (after s c) (after-stands s S c) cs
-    ∙ ap (λ t. revisedBy t (cutbacks (after s c) cs)) (step-terms (stood s S) (loaded-long s) (step s S c))
-    ∙ sym (revised-on (loaded s .terms) (cutbackOf s c) (cutbacks (after s c) cs))
+pub run-setup : (s : List ℕ) → StandsIn s → (cs : List Call) → setup (loaded (run s cs)) ≡ revisedBy (setup (loaded s)) (cutbacks s cs)
+run-setup s S [] = refl
+run-setup s S (c ∷ cs) =
+    run-setup (after s c) (after-stands s S c) cs
+    ∙ ap (λ t. revisedBy t (cutbacks (after s c) cs)) (step-setup (stood s S) (loaded-long s) (step s S c))
+    ∙ sym (revised-on (setup (loaded s)) (cutbackOf s c) (cutbacks (after s c) cs))
 
-pub run-keeps : (s : List ℕ) → StandsIn s → (cs : List Call) → KeptBut (loaded s .terms) (loaded (run s cs) .terms)
-run-keeps s S [] = kept-same (loaded s .terms)
+pub run-keeps : (s : List ℕ) → StandsIn s → (cs : List Call) → KeptBut (setup (loaded s)) (setup (loaded (run s cs)))
+run-keeps s S [] = kept-same (setup (loaded s))
 run-keeps s S (c ∷ cs) =
     kept-on (step-keeps (stood s S) (loaded-long s) (step s S c)) (run-keeps (after s c) (after-stands s S c) cs)
 
@@ -249,29 +237,28 @@ module _ (s : List ℕ) (x : Settings) (new : openNumber s x ≡ 0) (e : length 
   opened-stands = run-stands (openedBy s x) (open-stands s x new e r)
 
   -- of the settings that were opened, with the targets and caps of each cutback accepted since,
-  pub opened-terms : (cs : List Call) → loaded (run (openedBy s x) cs) .terms ≡ settingsAfter s x cs
-  unfolding opened
-  opened-terms cs =
-      run-terms (openedBy s x) (open-stands s x new e r) cs
-      ∙ ap (λ a. revisedBy (a .terms) (cutbacks (openedBy s x) cs)) (open-loaded s x new e r)
+  pub opened-settings : (cs : List Call) → setup (loaded (run (openedBy s x) cs)) ≡ settingsAfter s x cs
+  opened-settings cs =
+      run-setup (openedBy s x) (open-stands s x new e r) cs
+      ∙ ap (λ t. revisedBy t (cutbacks (openedBy s x) cs)) (open-setup s x new e r)
 
   -- which are those opened where none was,
-  pub uncut-terms : (cs : List Call) → cutbacks (openedBy s x) cs ≡ [] → settingsAfter s x cs ≡ termsOf x
-  uncut-terms cs u = ap (revisedBy (termsOf x)) u
+  pub uncut-settings : (cs : List Call) → cutbacks (openedBy s x) cs ≡ [] → settingsAfter s x cs ≡ setupOf x
+  uncut-settings cs u = ap (revisedBy (setupOf x)) u
 
   -- and of no other: every other setting stays, and no target or cap is larger than opened
-  pub opened-keeps : (cs : List Call) → KeptBut (termsOf x) (settingsAfter s x cs)
-  unfolding opened
+  pub opened-keeps : (cs : List Call) → KeptBut (setupOf x) (settingsAfter s x cs)
   opened-keeps cs =
-      rw (opened-terms cs, open-loaded s x new e r) at (run-keeps (openedBy s x) (open-stands s x new e r) cs)
+      rw (opened-settings cs, open-setup s x new e r) at (run-keeps (openedBy s x) (open-stands s x new e r) cs)
+
+  -- what the auction has one of is as opened
+  pub opened-terms : (cs : List Call) → loaded (run (openedBy s x) cs) .terms ≡ termsOf x
+  unfolding setupOf
+  opened-terms cs = ap (λ t. t .terms) (opened-settings cs) ∙ opened-keeps cs .terms
 
   -- products and bidders are those opened
   pub in-use : (cs : List Call) (p : ℕ) → p < termsOf x .products → p < loaded (run (openedBy s x) cs) .terms .products
-  in-use cs p h =
-      let t = ap (λ t. t .products) (opened-terms cs) in
-      omega (arith, opened-keeps cs .products)
+  in-use cs p h = omega (arith, ap (λ t. t .products) (opened-terms cs))
 
   pub bidding : (cs : List Call) (b : ℕ) → b < termsOf x .bidders → b < loaded (run (openedBy s x) cs) .terms .bidders
-  bidding cs b h =
-      let t = ap (λ t. t .bidders) (opened-terms cs) in
-      omega (arith, opened-keeps cs .bidders)
+  bidding cs b h = omega (arith, ap (λ t. t .bidders) (opened-terms cs))

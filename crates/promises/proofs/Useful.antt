@@ -18,7 +18,8 @@ use Rattle.rules.specs.declared.Outbid.{Outbid}
 use Rattle.rules.specs.Count.{allUpTo, from}
 use Rattle.rules.specs.Units.{tranches, quote}
 use Rattle.rules.specs.Answers.{said, answerOf, cardSaid, countSaid, calculationSaid, reportSaid, awardSaid, volumeSaid, closed, stopped}
-use Rattle.rules.specs.Settings.{noProduct, row, noRow, settingsFit, termsOf, targetOf, capOf}
+use Rattle.rules.specs.Parts.{row, noRow}
+use Rattle.rules.specs.Settings.{setup, noProduct, settingsFit, setupOf, targetOf, capOf}
 use Rattle.rules.specs.Bits.{bitAt, fieldAt, setIn, setBit, putField}
 use Rattle.rules.specs.Card.{line, noLine, readLines, readCard, putLines, cardOf, writeNumber, writeCard}
 use Rattle.rules.specs.Held.{excess}
@@ -71,13 +72,13 @@ calculate-writes s S draw n q =
 -- a cutback accepted that revises a target or a cap changes the state
 pub cutback-writes : (s : List ℕ) → StandsIn s → (targets caps : List Tranches) → cutbackNumber s targets caps ≡ 0
     → cutbackCall s targets caps .bytes ≡ s
-    → (p : ℕ) → p < 8 → (givenFor targets p ≡ targetOf (loaded s .terms) p) × (givenFor caps p ≡ capOf (loaded s .terms) p)
+    → (p : ℕ) → p < 8 → (givenFor targets p ≡ targetOf (setup (loaded s)) p) × (givenFor caps p ≡ capOf (setup (loaded s)) p)
 cutback-writes s S targets caps n q p h =
-    let t : loaded s .terms ≡ revised (loaded s .terms) targets caps =
-    ap (λ b. loaded b .terms) (sym q) ∙ cutback-only s S targets caps n .terms in
+    let t : setup (loaded s) ≡ revised (setup (loaded s)) targets caps =
+    ap (λ b. setup (loaded b)) (sym q) ∙ cutback-only s S targets caps n .settings in
     let x = ap (λ t. targetOf t p) t in
     let y = ap (λ t. capOf t p) t in
-    (sym (x ∙ revised-target (loaded s .terms) targets caps p h), sym (y ∙ revised-cap (loaded s .terms) targets caps p h))
+    (sym (x ∙ revised-target (setup (loaded s)) targets caps p h), sym (y ∙ revised-cap (setup (loaded s)) targets caps p h))
 
 -- ---- not one that refuses all, nor one with a constant answer: setting S
 
@@ -108,7 +109,7 @@ unfoldable pub draw012 : List ℕ
 draw012 = 0 ∷ 1 ∷ 2 ∷ []
 
 S-fits : settingsFit settingS ≡ true
-unfolding settingS termsOf allUpTo from
+unfolding settingS setupOf allUpTo from
 S-fits = refl
 
 new-by : (n : ℕ) → n ≡ stateLength → openNumber (replicate n 0) settingS ≡ 0
@@ -126,12 +127,12 @@ open-box : StandsIn openBox
 unfolding settingS
 open-box = open-stands newBox settingS new-opens refl refl
 
-open-auction : loaded openBox ≡ opened (termsOf settingS)
+open-auction : loaded openBox ≡ opened (setupOf settingS)
 unfolding settingS
 open-auction = open-loaded newBox settingS new-opens refl refl
 
 -- what a call answers of it
-box-says : (n : ℕ) (says : Auction → ℕ) → ofState openBox n says ≡ says (opened (termsOf settingS))
+box-says : (n : ℕ) (says : Auction → ℕ) → ofState openBox n says ≡ says (opened (setupOf settingS))
 box-says n says = of-standing openBox open-box n says ∙ ap says open-auction
 
 -- an opening, a card and a calculation, each accepted once and refused once
@@ -140,16 +141,16 @@ unfolding openCall
 open-answers = (rw new-opens, open-standing openBox settingS open-box .0)
 
 pub file-answers : (answerOf (fileCall openBox cardOf0 .answer) ≡ said 0 []) × (answerOf (fileCall openBox [] .answer) ≡ said 4 [])
-unfolding fileCall settingS cardOf0 opened termsOf allUpTo from judged readCard readLines fieldAt bitAt
+unfolding fileCall settingS cardOf0 opened setupOf allUpTo from judged readCard readLines fieldAt bitAt
 file-answers = (rw (box-says 3 (cardNumber cardOf0)), rw (box-says 3 (cardNumber [])))
 
-none-kept : (calculated (opened (termsOf settingS)) draw012 .kept ≡ 0) × (calculated (opened (termsOf settingS)) draw012 .outbid ≡ 0)
-unfolding settingS draw012 opened termsOf allUpTo from calculated keepLoop deemedUpTo outbidLoop
+none-kept : (calculated (opened (setupOf settingS)) draw012 .kept ≡ 0) × (calculated (opened (setupOf settingS)) draw012 .outbid ≡ 0)
+unfolding settingS draw012 opened setupOf allUpTo from calculated keepLoop deemedUpTo outbidLoop
 none-kept = (refl, refl)
 
 pub calculate-answers : (calculationSaid (calculateCall openBox draw012 .answer) ≡ said 0 (0 ∷ 0 ∷ []))
     × (calculationSaid (calculateCall openBox [] .answer) ≡ said 14 [])
-unfolding calculateCall settingS draw012 opened termsOf allUpTo from
+unfolding calculateCall settingS draw012 opened setupOf allUpTo from
 calculate-answers =
     (rw (box-says 3 (drawNumber draw012), open-auction, none-kept .0, none-kept .1), rw (box-says 3 (drawNumber [])))
 
@@ -157,24 +158,34 @@ calculate-answers =
 abbrev pub closedBox : List ℕ
 closedBox = calculateCall openBox draw012 .bytes
 
-closed-auction : loaded closedBox ≡ calculated (opened (termsOf settingS)) draw012 .auction
-unfolding settingS draw012 opened termsOf allUpTo from
+closed-auction : loaded closedBox ≡ calculated (opened (setupOf settingS)) draw012 .auction
+unfolding settingS draw012 opened setupOf allUpTo from
 closed-auction =
     calculate-loaded openBox open-box draw012 (box-says 3 (drawNumber draw012)) ∙ ap (λ a. calculated a draw012 .auction) open-auction
 
 pub closed-box : Closed closedBox
-unfolding settingS draw012 opened termsOf allUpTo from calculated keepLoop deemedUpTo outbidLoop
+unfolding settingS draw012 opened setupOf allUpTo from calculated keepLoop deemedUpTo outbidLoop
 closed-box = ap (λ a. a .phase) closed-auction
 
 pub count-answers : (countSaid (countCall openBox) ≡ said 0 (3 ∷ [])) × (countSaid (countCall []) ≡ said 1 [])
-unfolding countCall settingS opened termsOf ones
+unfolding countCall settingS opened setupOf ones
 count-answers = (rw (box-says 3 openNumberOf, open-auction), refl)
+
+reported : bidderNumber 0 (calculated (opened (setupOf settingS)) draw012 .auction) ≡ 0
+unfolding settingS draw012 opened setupOf allUpTo from calculated keepLoop deemedUpTo outbidLoop
+reported = refl
+
+first-report : reportSaid (reportOn (calculated (opened (setupOf settingS)) draw012 .auction) 0 .report) ≡ said 0 (0 ∷ closed ∷ 0 ∷ 20 ∷ [])
+unfolding reportOn settingS draw012 opened setupOf allUpTo from calculated keepLoop deemedUpTo outbidLoop
+first-report = refl
 
 pub report-answers : (reportSaid (reportCall closedBox 0 .report) ≡ said 0 (0 ∷ closed ∷ 0 ∷ 20 ∷ []))
     × (reportSaid (reportCall openBox 0 .report) ≡ said 18 [])
-unfolding reportCall reportOn settingS draw012 opened termsOf allUpTo from calculated keepLoop deemedUpTo outbidLoop
-report-answers =
-    (rw (of-standing closedBox (calculate-stands openBox open-box draw012) 3 (bidderNumber 0), closed-auction), rw (box-says 3 (bidderNumber 0)))
+unfolding reportCall settingS opened setupOf
+report-answers = (
+  rw (of-standing closedBox (calculate-stands openBox open-box draw012) 3 (bidderNumber 0), closed-auction, reported) first-report,
+  rw (box-says 3 (bidderNumber 0)),
+)
 
 pub result-answers : (awardSaid (resultCall closedBox .award) ≡ said 0 []) × (awardSaid (resultCall openBox .award) ≡ said 16 [])
 unfolding resultCall resultOf opened
@@ -212,10 +223,10 @@ abbrev box1 : List ℕ
 box1 = fileCall openBox cardOf0 .bytes
 
 abbrev auction1 : Auction
-auction1 = afterCard cardOf0 (opened (termsOf settingS))
+auction1 = afterCard cardOf0 (opened (setupOf settingS))
 
 holds1 : loaded box1 ≡ auction1
-unfolding settingS cardOf0 opened termsOf allUpTo from judged readCard readLines fieldAt bitAt
+unfolding settingS cardOf0 opened setupOf allUpTo from judged readCard readLines fieldAt bitAt
 holds1 = file-loaded openBox open-box cardOf0 (box-says 3 (cardNumber cardOf0)) ∙ ap (afterCard cardOf0) open-auction
 
 abbrev box2 : List ℕ
@@ -228,7 +239,7 @@ stands1 : StandsIn box1
 stands1 = file-stands openBox open-box cardOf0
 
 holds2 : loaded box2 ≡ auction2
-unfolding settingS cardOf0 cardOf1 opened termsOf allUpTo from judged readCard readLines fieldAt bitAt withCard setIn
+unfolding settingS cardOf0 cardOf1 opened setupOf allUpTo from judged readCard readLines fieldAt bitAt withCard setIn
 holds2 = file-loaded box1 stands1 cardOf1 (says-of box1 stands1 auction1 holds1 3 (cardNumber cardOf1)) ∙ ap (afterCard cardOf1) holds1
 
 stands2 : StandsIn box2
@@ -239,7 +250,7 @@ abbrev pub roundTwo : List ℕ
 roundTwo = calculateCall box2 draw012 .bytes
 
 holds3 : loaded roundTwo ≡ calculated auction2 draw012 .auction
-unfolding settingS draw012 cardOf0 cardOf1 opened termsOf allUpTo from readCard readLines fieldAt bitAt withCard
+unfolding settingS draw012 cardOf0 cardOf1 opened setupOf allUpTo from readCard readLines fieldAt bitAt withCard
 holds3 =
     calculate-loaded box2 stands2 draw012 (says-of box2 stands2 auction2 holds2 3 (drawNumber draw012))
     ∙ ap (λ a. calculated a draw012 .auction) holds2
@@ -250,7 +261,7 @@ two x y = tranches x ∷ tranches y ∷ replicate 6 (tranches 0)
 -- a reduced cap is accepted; a volume below the statewide cap is refused
 pub cutback-answers : (answerOf (cutbackCall roundTwo (two 3 2) (two 1 2) .answer) ≡ said 0 [])
     × (answerOf (cutbackCall roundTwo (two 2 2) (two 1 2) .answer) ≡ said 20 [])
-unfolding cutbackCall settingS draw012 cardOf0 cardOf1 opened termsOf allUpTo from readCard readLines fieldAt bitAt withCard setIn calculated keepLoop deemedUpTo outbidLoop
+unfolding cutbackCall settingS draw012 cardOf0 cardOf1 opened setupOf allUpTo from readCard readLines fieldAt bitAt withCard setIn calculated keepLoop deemedUpTo outbidLoop
 cutback-answers =
     let S = calculate-stands box2 stands2 draw012 in
     (rw (says-of roundTwo S _ holds3 3 (cutNumber (two 3 2) (two 1 2))), rw (says-of roundTwo S _ holds3 3 (cutNumber (two 2 2) (two 1 2))))

@@ -52,5 +52,5 @@ pub given-up-worked :
     × (inRounds (givenUp 1) roundsOfS ≡ 1) × (inRounds (withdrawnIn 1) roundsOfS ≡ 1)
     -- bidder 2 bids 2 and withdraws both, which are retained
     × (inRounds (givenUp 2) roundsOfS ≡ 3) × (inRounds (withdrawnIn 2) roundsOfS ≡ 2)
-unfolding roundsOfS opened withCard setIn
+unfolding roundsOfS opened withCard setIn from
 given-up-worked = (refl, refl, refl, refl, refl, refl)

@@ -4,6 +4,7 @@ use mathlib.Core.Bool.{true}
 use mathlib.Core.List.{List, _∷_, _++_}
 use Prim.Native.Nat.{ℕ, _+_, _≤_, _<_}
 use Rattle.rules.specs.declared.Terms.{Terms}
+use Rattle.rules.specs.declared.Setup.{Setup}
 use Rattle.rules.specs.Count.{sumUpTo}
 use Rattle.rules.specs.Settings.{targetOf, capOf, startOf, initialOf}
 use Rattle.rules.specs.Held.{goingIn, deniedIn, retainedIn}
@@ -16,17 +17,13 @@ use Rattle.promises.specs.Offered.{onOffer, inRounds, givenUp, withdrawn
 use Rattle.promises.specs.Awards.{Closed, awardOn, paidFor}
 
 -- the settings u are t but for targets and caps, of which none is larger
-pub record KeptBut (t u : Terms) : Type 0 where
-  pub unit : u .unit ≡ t .unit
-  pub products : u .products ≡ t .products
-  pub bidders : u .bidders ≡ t .bidders
-  pub rows : u .rows ≡ t .rows
-  pub statewide : u .statewide ≡ t .statewide
+pub record KeptBut (t u : Setup) : Type 0 where
+  pub terms : u .terms ≡ t .terms
   pub eligibility : u .eligibility ≡ t .eligibility
-  pub row : u .row ≡ t .row
+  pub decrements : u .decrements ≡ t .decrements
   pub start : (p : ℕ) → p < 8 → startOf u p ≡ startOf t p
-  pub target : (p : ℕ) → p < t .products → targetOf u p ≤ targetOf t p
-  pub cap : (p : ℕ) → p < t .products → capOf u p ≤ capOf t p
+  pub target : (p : ℕ) → p < t .terms .products → targetOf u p ≤ targetOf t p
+  pub cap : (p : ℕ) → p < t .terms .products → capOf u p ≤ capOf t p
 
 -- the calls split at the calculation that closed the auction; a bidder's closing bid, its card or default bid of that round, asked no
 -- more in total than it is awarded
@@ -59,8 +56,8 @@ pub record AwardOffered (rs : List Round) (s : List ℕ) (b p : ℕ) : Type 0 wh
 
 -- over all products of the settings t: each tranche of bidder b's initial eligibility is awarded at the going price or as a denied switch, on one
 -- product, or was given up, in one of the rounds rs; those awarded as retained withdrawals are of the withdrawn, which are of those given up
-pub record AwardedOnce (t : Terms) (rs : List Round) (s : List ℕ) (b : ℕ) : Type 0 where
-  pub whole : sumUpTo (λ p. goingIn (recordOf (loaded s) b p) + deniedIn (recordOf (loaded s) b p)) (t .products) + inRounds (givenUp b) rs
+pub record AwardedOnce (t : Setup) (rs : List Round) (s : List ℕ) (b : ℕ) : Type 0 where
+  pub whole : sumUpTo (λ p. goingIn (recordOf (loaded s) b p) + deniedIn (recordOf (loaded s) b p)) (t .terms .products) + inRounds (givenUp b) rs
       ≡ initialOf t b
-  pub retained : sumUpTo (λ p. retainedIn (recordOf (loaded s) b p)) (t .products) ≤ inRounds (withdrawnIn b) rs
+  pub retained : sumUpTo (λ p. retainedIn (recordOf (loaded s) b p)) (t .terms .products) ≤ inRounds (withdrawnIn b) rs
   pub withdrawn : inRounds (withdrawnIn b) rs ≤ inRounds (givenUp b) rs

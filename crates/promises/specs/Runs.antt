@@ -6,9 +6,9 @@ use lib.Dec.{eqb}
 use Rattle.rules.specs.declared.Tranches.{Tranches}
 use Rattle.rules.specs.declared.Line.{Line}
 use Rattle.rules.specs.declared.Settings.{Settings}
-use Rattle.rules.specs.declared.Terms.{Terms}
+use Rattle.rules.specs.declared.Setup.{Setup}
 use Rattle.rules.specs.declared.Auction.{Auction}
-use Rattle.rules.specs.Settings.{termsOf, targetOf}
+use Rattle.rules.specs.Settings.{setup, setupOf, targetOf}
 use Rattle.rules.specs.Held.{held}
 use Rattle.rules.specs.Layout.{loaded}
 use Rattle.rules.specs.Cutback.{revised}
@@ -51,7 +51,7 @@ openedBy s x = openCall s x .bytes
 
 -- the filled part of a product: "the lesser of its held tranches and its target"
 abbrev pub filledPart : Auction → ℕ → ℕ
-filledPart a p = min (held (a .records) (a .terms .bidders) p) (targetOf (a .terms) p)
+filledPart a p = min (held (a .records) (a .terms .bidders) p) (targetOf (setup a) p)
 
 -- ---- the rounds of a run
 
@@ -102,10 +102,10 @@ cutbacks s [] = []
 cutbacks s (c ∷ cs) = cutbackOf s c ++ cutbacks (after s c) cs
 
 -- "the revised numbers": the settings with the targets and caps of each cutback in its turn
-abbrev pub revisedBy : Terms → List Cutback → Terms
+abbrev pub revisedBy : Setup → List Cutback → Setup
 revisedBy t [] = t
 revisedBy t (k ∷ ks) = revisedBy (revised t (k .targets) (k .caps)) ks
 
 -- the settings after the calls cs that follow an opening: those opened, where no cutback was accepted
-abbrev pub settingsAfter : List ℕ → Settings → List Call → Terms
-settingsAfter s x cs = revisedBy (termsOf x) (cutbacks (openedBy s x) cs)
+abbrev pub settingsAfter : List ℕ → Settings → List Call → Setup
+settingsAfter s x cs = revisedBy (setupOf x) (cutbacks (openedBy s x) cs)

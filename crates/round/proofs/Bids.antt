@@ -37,16 +37,16 @@ whole k = sym (div-add-mod' k 8)
 
 -- what stands at the place of a bidder on a product
 accepted-at : (a : Auction) (ticks : List ℕ) → Ticks ticks a → (k : ℕ) → k % 8 < 8 → (l : Line) (x : Place)
-    → l ≡ cond (hasFiled a (k / 8)) (getD (a .bids) k noLine) (defaultLine (isOne ticks (k % 8)) (beforeAt a (k % 8)) (recordAt (a .records) k))
+    → l ≡ cond (hasFiled a (k / 8)) (getD (a .cards .lines) k noLine) (defaultLine (isOne ticks (k % 8)) (beforeAt a (k % 8)) (recordAt (a .records) k))
     → x ≡ accepted (recordAt (a .records) k) l → x ≡ accepted (recordOf a (k / 8) (k % 8)) (bidOn a (k / 8) (k % 8))
 accepted-at a ticks T k lt l x e f =
     subst (λ l. x ≡ accepted (recordAt (a .records) k) l) e f
     ∙ ap₂ (λ j t. accepted (recordAt (a .records) j)
-    (cond (hasFiled a (k / 8)) (getD (a .bids) j noLine) (defaultLine t (beforeAt a (k % 8)) (recordAt (a .records) j)))) (whole k) (T (k % 8) lt)
+    (cond (hasFiled a (k / 8)) (getD (a .cards .lines) j noLine) (defaultLine t (beforeAt a (k % 8)) (recordAt (a .records) j)))) (whole k) (T (k % 8) lt)
 
 -- the same of what was read there
 pub accepted-here : (a : Auction) (ticks : List ℕ) → Ticks ticks a → (k : ℕ) → k % 8 < 8 → (l : Line) (x : Place)
-    {f : Bool} {n : Line} {q : ℕ} {r : Record} → f ≡ hasFiled a (k / 8) → n ≡ getD (a .bids) k noLine → q ≡ beforeAt a (k % 8)
+    {f : Bool} {n : Line} {q : ℕ} {r : Record} → f ≡ hasFiled a (k / 8) → n ≡ getD (a .cards .lines) k noLine → q ≡ beforeAt a (k % 8)
     → r ≡ recordAt (a .records) k → l ≡ cond f n (defaultLine (isOne ticks (k % 8)) q r) → x ≡ accepted r l
     → x ≡ accepted (recordOf a (k / 8) (k % 8)) (bidOn a (k / 8) (k % 8))
 accepted-here a ticks T k lt l x e₁ e₂ e₃ e₄ e f = accepted-at a ticks T k lt l x (rw (e₁, e₂, e₃, e₄) at e) (rw e₄ at f)
@@ -70,10 +70,10 @@ unfolding Little
 fits-accepted r l g d n s = record { outs = omega arith; switches = omega arith; rises = omega arith }
 
 module _ (a : Auction) (S : Stands a) where
-  bid-small : (k : ℕ) → k < 256 → bidIn (getD (a .bids) k noLine) < 256
+  bid-small : (k : ℕ) → k < 256 → bidIn (getD (a .cards .lines) k noLine) < 256
   bid-small k h = let e = lines-fit a S k h in search told
 
-  withdrawn-small : (k : ℕ) → k < 256 → withdrawnIn (getD (a .bids) k noLine) < 256
+  withdrawn-small : (k : ℕ) → k < 256 → withdrawnIn (getD (a .cards .lines) k noLine) < 256
   withdrawn-small k h = let e = lines-fit a S k h in search told
 
   fits-place : (k : ℕ) → place (k / 8) (k % 8) < 256 → Fits (accepted (recordOf a (k / 8) (k % 8)) (bidOn a (k / 8) (k % 8)))
@@ -83,7 +83,7 @@ module _ (a : Auction) (S : Stands a) where
       let r = record-small a S j l .0 in
       let d = defaultLine (ticked a (k % 8)) (beforeAt a (k % 8)) (recordAt (a .records) j) in
       fits-accepted (recordAt (a .records) j) (bidOn a (k / 8) (k % 8)) (omega arith) (omega arith) (omega arith)
-      (little-cond (hasFiled a (k / 8)) (getD (a .bids) j noLine) d (omega (arith, bid-small j l), omega (arith, withdrawn-small j l))
+      (little-cond (hasFiled a (k / 8)) (getD (a .cards .lines) j noLine) d (omega (arith, bid-small j l), omega (arith, withdrawn-small j l))
       (little-default (ticked a (k % 8)) (beforeAt a (k % 8)) (recordAt (a .records) j) (omega arith)))
 
   room-by : (k : ℕ) (t : Bool) → ltb k 256 ≡ t → Fits (placeAt (acceptedAll a) k)

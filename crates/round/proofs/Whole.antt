@@ -12,7 +12,7 @@ use Rattle.rules.specs.declared.Kept.{Kept}
 use Rattle.rules.specs.declared.Outbid.{Outbid}
 use Rattle.rules.specs.declared.Auction.{Auction}
 use Rattle.rules.specs.Units.{tranches}
-use Rattle.rules.specs.Settings.{targetOf}
+use Rattle.rules.specs.Settings.{setup, targetOf}
 use Rattle.rules.specs.Answers.{closed, stopped}
 use Rattle.rules.specs.Held.{excess, ticked}
 use Rattle.rules.specs.Accept.{acceptedAll, every, leftOf, keptOf}
@@ -25,7 +25,7 @@ use Rattle.rules.proofs.Storing.{stored-long, loaded-long}
 use Rattle.rules.proofs.Round.{round-rest-loads}
 use Rattle.book.specs.Lent.{Lent}
 use Rattle.held.specs.Ticks.{Ticks}
-use Rattle.storing.specs.Written.{withPhase}
+use Rattle.rules.specs.Parts.{withPhase}
 use Rattle.search.specs.Room.{Drawn, isOne, targetOn}
 use Rattle.round.specs.Ready.{Targets, settledFrom, Ready, Calculates}
 use Rattle.round.specs.declared.Tally.{Tally}
@@ -59,7 +59,7 @@ module _ (a : Auction) (order ticks targets : List ℕ) (T : Ticks ticks a) (G :
       → k ≡ afterStep2 a order
   kept-is k ps e f =
       f ∙ ap (keptAll m n (targetOn targets) (isOne ticks) (drawn order)) e
-      ∙ keep-same (isOne ticks) (ticked a) T m n few (targetOn targets) (targetOf (a .terms)) G (drawn order)
+      ∙ keep-same (isOne ticks) (ticked a) T m n few (targetOn targets) (targetOf (setup a)) G (drawn order)
       (every leftOf (acceptedAll a) n) (acceptedAll a) 0
 
   pub outbid-is : (k : Kept) (ps : List Place) (o : Outbid) → ps ≡ deemedUpTo (isOne ticks) (k .places) (n * 8)
@@ -69,7 +69,7 @@ module _ (a : Auction) (order ticks targets : List ℕ) (T : Ticks ticks a) (G :
       let qs : List Place = deemedUpTo (ticked a) (k .places) (n * 8) in
       let w : ps ≡ qs = e ∙ deemed-same (isOne ticks) (ticked a) T (k .places) (n * 8) in
       f ∙ ap (λ ps. outbidAll m n (targetOn targets) (isOne ticks) (drawn order) ps (replicate 32 (tranches 0))) w
-      ∙ outbid-same (isOne ticks) (ticked a) T m n few (targetOn targets) (targetOf (a .terms)) G (drawn order)
+      ∙ outbid-same (isOne ticks) (ticked a) T m n few (targetOn targets) (targetOf (setup a)) G (drawn order)
       (every keptOf qs n) (outbid qs (replicate 32 (tranches 0)) 0)
       ∙ ap (λ k. afterStep4 a order (k .places)) g
 

@@ -7,7 +7,7 @@ use lib.ListN.{length}
 use lib.Dec.{eqb}
 use Rattle.rules.specs.declared.Auction.{Auction}
 use Rattle.rules.specs.Answers.{stopped}
-use Rattle.rules.specs.Settings.{targetOf}
+use Rattle.rules.specs.Settings.{setup, targetOf}
 use Rattle.rules.specs.Held.{excess}
 use Rattle.rules.specs.Standing.{isOpen}
 use Rattle.rules.specs.Stands.{Stands}
@@ -16,12 +16,12 @@ use Rattle.rules.specs.Layout.{loaded, stored}
 use Rattle.book.specs.Lent.{Long}
 use Rattle.held.specs.Ticks.{Ticks}
 use Rattle.search.specs.Room.{targetOn}
-use Rattle.storing.specs.Written.{withPhase}
+use Rattle.rules.specs.Parts.{withPhase}
 use Rattle.round.specs.declared.Tally.{Tally}
 
 -- a number for each product is its target
 abbrev pub Targets : List ℕ → Auction → Type 0
-Targets targets a = (p : ℕ) → p < 8 → targetOn targets p ≡ targetOf (a .terms) p
+Targets targets a = (p : ℕ) → p < 8 → targetOn targets p ≡ targetOf (setup a) p
 
 -- the state whose bids are accepted, its ticks, and the table for them
 pub record Accepting (s marks : List ℕ) (ps : List (List ℕ)) : Type 0 where
@@ -37,7 +37,7 @@ settledFrom z = cond (eqb (excess z) 0) z (cond (stops z) (withPhase z stopped) 
 pub record Ready (s order : List ℕ) : Type 0 where
   pub long : Long s
   pub stands : Stands (loaded s)
-  pub bits : loaded s .filed < 4294967296
+  pub bits : loaded s .cards .filed < 4294967296
   pub bidding : isOpen (loaded s) ≡ true
   pub draw : drawFits (loaded s .terms .bidders) order ≡ true
 

@@ -5,7 +5,7 @@ use Prim.Native.Nat.{ℕ, _<_}
 use native.Mathlib.Omega.{arith}
 use lib.ListN.{getD}
 use Rattle.rules.specs.declared.Auction.{Auction}
-use Rattle.rules.specs.Settings.{capOf}
+use Rattle.rules.specs.Settings.{setup, capOf}
 use Rattle.rules.specs.Card.{noLine}
 use Rattle.rules.specs.Held.{place, ticked, freeOf}
 use Rattle.rules.specs.Bid.{recordOf, priceAt, beforeAt, onProduct, hasFiled, slotOf, defaultLine, bidOn}
@@ -18,17 +18,17 @@ use Rattle.rules.proofs.Default.{default-accepted}
 
 module _ (a : Auction) (S : Stands a) (o : isOpen a ≡ true) (b : ℕ) (hb : b < a .terms .bidders) where
   bids-by : (t : Bool) → hasFiled a b ≡ t
-      → Accepted (a .terms .products) (ticked a) (capOf (a .terms)) (priceAt a) (beforeAt a) (recordOf a b)
-      (λ p. cond t (getD (a .bids) (place b p) noLine) (defaultLine (ticked a p) (beforeAt a p) (recordOf a b p))) (freeOf a b)
+      → Accepted (a .terms .products) (ticked a) (capOf (setup a)) (priceAt a) (beforeAt a) (recordOf a b)
+      (λ p. cond t (getD (a .cards .lines) (place b p) noLine) (defaultLine (ticked a p) (beforeAt a p) (recordOf a b p))) (freeOf a b)
   bids-by true e =
       let L = S .limits in
       let x = rw e at (S .slots b (omega arith)) in
-      accepted-ext _ _ _ _ _ _ (onProduct (slotOf a b)) _ _ (λ p h. list-at (λ p. getD (a .bids) (place b p) noLine) noLine 8 p (omega arith))
+      accepted-ext _ _ _ _ _ _ (onProduct (slotOf a b)) _ _ (λ p h. list-at (λ p. getD (a .cards .lines) (place b p) noLine) noLine 8 p (omega arith))
       (judged-take a b (slotOf a b) (search told))
   bids-by false e = default-accepted a S o b hb
 
   -- the bid of each bidder passes 8 to 13
-  pub bids-accepted : Accepted (a .terms .products) (ticked a) (capOf (a .terms)) (priceAt a) (beforeAt a) (recordOf a b) (bidOn a b) (freeOf a b)
+  pub bids-accepted : Accepted (a .terms .products) (ticked a) (capOf (setup a)) (priceAt a) (beforeAt a) (recordOf a b) (bidOn a b) (freeOf a b)
   bids-accepted = bids-by (hasFiled a b) refl
 
 -- only bidders in use have filed

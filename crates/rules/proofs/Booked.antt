@@ -15,7 +15,7 @@ use Rattle.rules.specs.declared.Outbid.{Outbid}
 use Rattle.rules.specs.declared.Auction.{Auction}
 use Rattle.rules.specs.Count.{sumUpTo}
 use Rattle.rules.specs.Units.{tranches}
-use Rattle.rules.specs.Settings.{targetOf, capOf}
+use Rattle.rules.specs.Settings.{setup, targetOf, capOf}
 use Rattle.rules.specs.Held.{goingIn, deniedIn, retainedIn, exitIn, heldIn, keptIn, held, standing, above, ticked, freeOf}
 use Rattle.rules.specs.Bid.{bidIn, withdrawnIn, reduction, increase, recordOf, priceAt, beforeAt, bidOn}
 use Rattle.rules.specs.Accept.{placeAt, acceptedAll, heldOf, keptOf, movingOf, riseOf, column, rowOf, every}
@@ -37,16 +37,16 @@ use Rattle.rules.proofs.Draw.{draw-range, draw-reach}
 -- the book o that steps 1 to 4 leave of an auction a
 pub record Booked (a : Auction) (o : Outbid) : Type 0 where
   pub long-free : length (o .free) ≡ 32
-  pub filled : (p x : ℕ) → p < a .terms .products → x ≤ targetOf (a .terms) p → x ≤ held (a .records) (a .terms .bidders) p
+  pub filled : (p x : ℕ) → p < a .terms .products → x ≤ targetOf (setup a) p → x ≤ held (a .records) (a .terms .bidders) p
       → x ≤ column heldOf (o .places) p (a .terms .bidders)
   pub kept : (p : ℕ) → p < a .terms .products → 0 < column keptOf (o .places) p (a .terms .bidders)
-      → (priceAt a p < beforeAt a p) × (column heldOf (o .places) p (a .terms .bidders) ≡ targetOf (a .terms) p)
+      → (priceAt a p < beforeAt a p) × (column heldOf (o .places) p (a .terms .bidders) ≡ targetOf (setup a) p)
   pub first : a .round ≡ 1 → (p : ℕ) → p < a .terms .products → column keptOf (o .places) p (a .terms .bidders) ≡ 0
   pub exits : (b p : ℕ) → b < a .terms .bidders → p < a .terms .products → 0 < retainedOf (placeAt (o .places) (b * 8 + p))
       → (priceAt a p < exitOf (placeAt (o .places) (b * 8 + p))) × (exitOf (placeAt (o .places) (b * 8 + p)) ≤ beforeAt a p)
   pub no-exit : (b p : ℕ) → b < a .terms .bidders → p < a .terms .products → retainedOf (placeAt (o .places) (b * 8 + p)) ≡ 0
       → exitOf (placeAt (o .places) (b * 8 + p)) ≡ 0
-  pub caps : (b p : ℕ) → b < a .terms .bidders → p < a .terms .products → heldOf (placeAt (o .places) (b * 8 + p)) ≤ capOf (a .terms) p
+  pub caps : (b p : ℕ) → b < a .terms .bidders → p < a .terms .products → heldOf (placeAt (o .places) (b * 8 + p)) ≤ capOf (setup a) p
   pub bare : (b p : ℕ) → b < 32 → p < 8 → (b < a .terms .bidders → a .terms .products ≤ p)
       → NoRecord (placeAt (o .places) (b * 8 + p) .holds)
   pub worth : (b : ℕ) → b < a .terms .bidders
@@ -97,7 +97,7 @@ module _ (a : Auction) (draw : List ℕ) where
   n = a .terms .bidders
 
   abbrev goal : ℕ → ℕ
-  goal = targetOf (a .terms)
+  goal = targetOf (setup a)
 
   abbrev l0 : List Place
   l0 = acceptedAll a
@@ -125,7 +125,7 @@ module _ (a : Auction) (draw : List ℕ) where
     hn = S .limits .bidders
 
     -- after step 2
-    pub kept-end : Ended (a .terms .products) (a .terms .bidders) (targetOf (a .terms)) (ticked a) (acceptedAll a) 0 (afterStep2 a draw)
+    pub kept-end : Ended (a .terms .products) (a .terms .bidders) (targetOf (setup a)) (ticked a) (acceptedAll a) 0 (afterStep2 a draw)
     kept-end =
         keep-ends m n goal (ticked a) (drawn draw) hm (draw-range n draw D) (draw-reach n draw D) _ l0 0
         (keepable a S A) (omega arith)
@@ -136,7 +136,7 @@ module _ (a : Auction) (draw : List ℕ) where
     deem-end = deemed-each (ticked a) l2 (n * 8) (kept-end .keepable .long)
 
     -- after step 4
-    pub out-end : OutEnded (a .terms .products) (a .terms .bidders) (targetOf (a .terms)) (ticked a)
+    pub out-end : OutEnded (a .terms .products) (a .terms .bidders) (targetOf (setup a)) (ticked a)
         (outbid (deemedUpTo (ticked a) (afterStep2 a draw .places) (a .terms .bidders * 8)) (replicate 32 (tranches 0)) 0)
         (afterStep4 a draw (afterStep2 a draw .places))
     out-end =
@@ -171,7 +171,7 @@ module _ (a : Auction) (draw : List ℕ) where
       fresh t = let x = sum-ge (λ b. keptIn (recordOf a b p)) n b hb in omega (arith, none-kept a S p hp t)
 
       -- "each bidder within product caps"
-      booked-caps : heldOf (placeAt l4 (b * 8 + p)) ≤ capOf (a .terms) p
+      booked-caps : heldOf (placeAt l4 (b * 8 + p)) ≤ capOf (setup a) p
       booked-caps = omega (arith, trail, A b hb .caps p hp, S .caps b p hb hp)
 
       -- what is retained has an exit price above p and at most q: this bid's where the product ticked, the old one elsewhere

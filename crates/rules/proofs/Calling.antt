@@ -13,7 +13,7 @@ use Rattle.rules.specs.declared.Card.{Card}
 use Rattle.rules.specs.declared.Card.the-variants.{Bid, Refused}
 use Rattle.rules.specs.declared.Settings.{Settings}
 use Rattle.rules.specs.declared.Auction.{Auction}
-use Rattle.rules.specs.Settings.{settingsFit, termsOf, itemOf, productAt}
+use Rattle.rules.specs.Settings.{settingsFit, setup, setupOf, itemOf, productAt}
 use Rattle.rules.specs.Card.{noLine, lineZero, lineAt, lineBit, countFits, filled, cardLength, readLines, readRefused, bidOf, readCard}
 use Rattle.rules.specs.Bid.{onProduct, judged}
 use Rattle.rules.specs.Standing.{isOpen, zeroFrom}
@@ -22,26 +22,32 @@ use Rattle.rules.specs.Calls.{opened, bidNumber, cardNumber, bidderOn, a
 use Rattle.rules.proofs.Lists.{all-give, list-long}
 use Rattle.rules.proofs.Tests.{told}
 use Rattle.rules.specs.Stands.{Long, Stands}
-use Rattle.rules.proofs.Opening.{blank, opened-stands, opened-long}
+use Rattle.rules.proofs.Opening.{blank, opened-setup, opened-stands, opened-long}
 use Rattle.rules.proofs.Filing.{filed-stands, filed-long, bits-filed}
 use Rattle.rules.proofs.Fitting.{standing-loads}
 
 -- ---- open
 
 -- settings that fit open a standing state
-pub opens : (s : Settings) → settingsFit s ≡ true → Stands (opened (termsOf s))
-opens s e = opened-stands (termsOf s) (search told)
+pub opens : (s : Settings) → settingsFit s ≡ true → length (s .eligibility) ≡ 32 → Stands (opened (setupOf s))
+unfolding setupOf
+opens s f e = opened-stands (setupOf s) (search told) (list-long (λ p. itemOf (productAt s p)) 8) e
 
 -- its lists are as long as its arrays
-pub opens-long : (s : Settings) → length (s .eligibility) ≡ 32 → length (s .row) ≡ 8 → Long (opened (termsOf s))
-unfolding termsOf
-opens-long s e r = opened-long (termsOf s) (list-long (λ p. itemOf (productAt s p)) 8) e r
+pub opens-long : (s : Settings) → length (s .row) ≡ 8 → Long (opened (setupOf s))
+unfolding setupOf
+opens-long s r = opened-long (setupOf s) r
 
 -- and the bytes that are written are read as that state
 pub opens-loads : (s : Settings) → settingsFit s ≡ true → length (s .eligibility) ≡ 32 → length (s .row) ≡ 8
-    → loaded (stored (opened (termsOf s))) ≡ opened (termsOf s)
+    → loaded (stored (opened (setupOf s))) ≡ opened (setupOf s)
 unfolding opened
-opens-loads s e i r = standing-loads (opened (termsOf s)) (opens s e) (opens-long s i r) (omega arith)
+opens-loads s f e r = standing-loads (opened (setupOf s)) (opens s f e) (opens-long s r) (omega arith)
+
+-- its settings are those given
+pub opens-setup : (s : Settings) → length (s .eligibility) ≡ 32 → setup (opened (setupOf s)) ≡ setupOf s
+unfolding setupOf
+opens-setup s e = opened-setup (setupOf s) (list-long (λ p. itemOf (productAt s p)) 8) e
 
 -- ---- the lines of a card read
 
@@ -132,6 +138,6 @@ module _ (a : Auction) (S : Stands a) (L : Long a) (s : List ℕ) (e : cardNumbe
   files-long = filed-long a _ _ L
 
   -- and the bytes that are written are read as that state
-  pub files-loads : a .filed < 4294967296 → loaded (stored (afterCard s a)) ≡ afterCard s a
+  pub files-loads : a .cards .filed < 4294967296 → loaded (stored (afterCard s a)) ≡ afterCard s a
   files-loads h =
       standing-loads (afterCard s a) files files-long (bits-filed a _ _ (omega (arith, file-take a s e .1, S .limits .bidders)) h)

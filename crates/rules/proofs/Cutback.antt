@@ -11,32 +11,34 @@ use lib.ListN.{length, getD}
 use lib.Dec.{eqb, ltb}
 use Rattle.rules.specs.declared.Tranches.{Tranches}
 use Rattle.rules.specs.declared.Record.{Record}
-use Rattle.rules.specs.declared.Terms.{Terms}
+use Rattle.rules.specs.declared.Lane.{Lane}
+use Rattle.rules.specs.declared.Setup.{Setup}
 use Rattle.rules.specs.declared.Auction.{Auction}
 use Rattle.rules.specs.Count.{sumUpTo}
-use Rattle.rules.specs.Units.{tranches}
 use Rattle.rules.specs.Answers.{bidsOpen, stopped}
-use Rattle.rules.specs.Settings.{item, noItem, withinLimits, itemWithin, targetOf, capOf, startOf}
+use Rattle.rules.specs.Parts.{noLane, laneAt, limited, withPhase, withLanes, withPrices, withLimits, withFree}
+use Rattle.rules.specs.Settings.{setup, item, noItem, itemIn, withinLimits, itemWithin, targetOf, capOf, startOf, initialOf}
 use Rattle.rules.specs.Held.{nothing, goingIn, deniedIn, retainedIn, exitIn, heldIn, keptIn, recordAt, setTo, held, aboveZero, standingOf, freeOf, eligibility, excess}
 use Rattle.rules.specs.Bid.{recordOf, priceAt, beforeAt, hasFiled}
-use Rattle.rules.specs.Round.{opensAt, stops}
-use Rattle.rules.specs.Cutback.{givenFor, numbersFit, mayCut, revised, cutFrom, reduced, cutBack}
+use Rattle.rules.specs.Round.{priceNext, beforeNext, opensAt, stops}
+use Rattle.rules.specs.Cutback.{givenFor, numbersFit, mayCut, revised, cutFrom, freeCut, reduced, cutBack}
 use Rattle.rules.specs.Standing.{isOpen, recordZero, phaseStands}
 use Rattle.rules.specs.Stands.{Limits, Long, Stands}
 use Rattle.rules.specs.OneCall.{CutOnly, CutPrice}
 use Rattle.rules.proofs.Sums.{sum-ext, sum-le, sum-six, sum-ge, sum-add, sum-swap, sum-zero}
-use Rattle.rules.proofs.Lists.{clash, both, all-give, all-take, list-at, list-long}
+use Rattle.rules.proofs.Lists.{clash, both, all-give, all-take, list-at, list-ext, list-long}
 use Rattle.rules.proofs.Signed.{above-zero}
 use Rattle.rules.proofs.Tests.{told, shown}
 use Rattle.rules.proofs.Standing.{limits-take, second-none, later-excess, later-open}
-use Rattle.rules.proofs.Prices.{Priced, nextPrices, nextBefores, next, next-none}
+use Rattle.rules.proofs.Prices.{Priced, next, next-none}
+use Rattle.rules.proofs.Parts.{target-is, cap-is, start-is, excess-same, price-anew, before-anew, prices-setup, free-anew, free-setup}
 use Rattle.rules.specs.Layout.{stored, loaded}
 use Rattle.rules.proofs.Storing.{Fits, loads}
 use Rattle.rules.proofs.Fitting.{fits}
 
 -- ---- the revised settings, whatever the numbers
 
-module _ (t : Terms) (targets caps : List Tranches) (p : ℕ) (h : p < 8) where
+module _ (t : Setup) (targets caps : List Tranches) (p : ℕ) (h : p < 8) where
   item-is : getD (revised t targets caps .item) p noItem ≡ item (givenFor targets p) (givenFor caps p) (startOf t p)
   unfolding revised
   item-is = list-at (λ p. item (givenFor targets p) (givenFor caps p) (startOf t p)) noItem 8 p h
@@ -50,6 +52,16 @@ module _ (t : Terms) (targets caps : List Tranches) (p : ℕ) (h : p < 8) where
   pub revised-start : startOf (revised t targets caps) p ≡ startOf t p
   revised-start = ap (λ i. i .start) item-is
 
+limits-setup : (a : Auction) (targets caps : List Tranches)
+    → setup (withLimits a (givenFor targets) (givenFor caps)) ≡ revised (setup a) targets caps
+unfolding revised
+limits-setup a targets caps =
+    let e = list-ext (λ p. itemIn (laneAt (withLimits a (givenFor targets) (givenFor caps)) p))
+    (λ p. item (givenFor targets p) (givenFor caps p) (startOf (setup a) p)) 8
+    (λ p h. ap itemIn (list-at (λ p. limited (laneAt a p) (givenFor targets p) (givenFor caps p)) noLane 8 p h)
+    ∙ ap (item (givenFor targets p) (givenFor caps p)) (sym (start-is a p h))) in
+    rw e refl
+
 module _ (a : Auction) (targets caps : List Tranches) where
   abbrev m : ℕ
   m = a .terms .products
@@ -57,8 +69,8 @@ module _ (a : Auction) (targets caps : List Tranches) where
   abbrev n : ℕ
   n = a .terms .bidders
 
-  abbrev t : Terms
-  t = revised (a .terms) targets caps
+  abbrev t : Setup
+  t = revised (setup a) targets caps
 
   abbrev z : Auction
   z = reduced a targets caps
@@ -76,17 +88,30 @@ module _ (a : Auction) (targets caps : List Tranches) where
 
   free-is : (b : ℕ) → b < 32 → freeOf z b ≡ freeOf a b + cutFrom a caps b
   unfolding reduced
-  free-is b h = let x : freeOf z b ≡ _ = ap (λ f. f .0) (list-at _ (tranches 0) 32 b h) in omega arith
+  free-is b h = let x : freeOf z b ≡ freeCut a caps b = free-anew a (freeCut a caps) b h in omega arith
 
-  price-is : (p : ℕ) → p < 8 → priceAt z p ≡ startOf (a .terms) p
+  abbrev limitsCut : Auction
+  limitsCut = withLimits (withFree a (freeCut a caps)) (givenFor targets) (givenFor caps)
+
+  price-is : (p : ℕ) → p < 8 → priceAt z p ≡ startOf (setup a) p
   unfolding reduced
-  price-is p h = list-at (startOf (a .terms)) 0 8 p h
+  price-is p h = price-anew limitsCut (startOf (setup a)) (startOf (setup a)) p h
 
-  before-is : (p : ℕ) → p < 8 → beforeAt z p ≡ startOf (a .terms) p
+  before-is : (p : ℕ) → p < 8 → beforeAt z p ≡ startOf (setup a) p
   unfolding reduced
-  before-is p h = list-at (startOf (a .terms)) 0 8 p h
+  before-is p h = before-anew limitsCut (startOf (setup a)) (startOf (setup a)) p h
 
-  module _ (L : Limits (a .terms)) where
+  -- its settings are the revised ones
+  pub reduced-setup : setup (reduced a targets caps) ≡ revised (setup a) targets caps
+  unfolding reduced
+  reduced-setup =
+      prices-setup limitsCut (startOf (setup a)) (startOf (setup a)) ∙ limits-setup (withFree a (freeCut a caps)) targets caps
+      ∙ ap (λ u. revised u targets caps) (free-setup a (freeCut a caps))
+
+  target-z : (p : ℕ) → targetOf (setup z) p ≡ targetOf t p
+  target-z p = ap (λ u. targetOf u p) reduced-setup
+
+  module _ (L : Limits (setup a)) where
     -- what is held of a product, with what was cut there, is what was held
     held-cut : (p : ℕ) → p < m
         → held (z .records) n p + sumUpTo (λ b. goingIn (recordOf a b p) - givenFor caps p) n ≡ held (a .records) n p
@@ -110,7 +135,7 @@ module _ (a : Auction) (targets caps : List Tranches) where
   -- ---- a cutback that may be made
 
   module _ (S : Stands a) (op : isOpen a ≡ true) (may : mayCut a targets caps ≡ true) where
-    L : Limits (a .terms)
+    L : Limits (setup a)
     L = S .limits
 
     hm : m ≤ 8
@@ -122,16 +147,16 @@ module _ (a : Auction) (targets caps : List Tranches) where
     pub cut-second : a .round ≡ 2
     cut-second = search told
 
-    pub cut-unfiled : a .filed ≡ 0
+    pub cut-unfiled : a .cards .filed ≡ 0
     cut-unfiled = search told
 
-    fit : (p : ℕ) → p < 8 → numbersFit (a .terms) targets caps p ≡ true
-    fit = all-take (numbersFit (a .terms) targets caps) 8 (search told)
+    fit : (p : ℕ) → p < 8 → numbersFit (setup a) targets caps p ≡ true
+    fit = all-take (numbersFit (setup a) targets caps) 8 (search told)
 
     -- "none larger than before and none 0, targets still ranked, caps at most targets"
     pub cut-numbers : (p : ℕ) → p < a .terms .products
-        → (1 ≤ givenFor targets p) × (givenFor targets p ≤ targetOf (a .terms) p) × (1 ≤ givenFor caps p)
-        × (givenFor caps p ≤ capOf (a .terms) p) × (givenFor caps p ≤ givenFor targets p)
+        → (1 ≤ givenFor targets p) × (givenFor targets p ≤ targetOf (setup a) p) × (1 ≤ givenFor caps p)
+        × (givenFor caps p ≤ capOf (setup a) p) × (givenFor caps p ≤ givenFor targets p)
     cut-numbers p h = let x = rw (lt-ltb p m h) at (fit p (omega (arith, hm))) in search told
 
     cut-ranked : (p : ℕ) → 0 < p → p < m → givenFor targets p ≤ givenFor targets (p - 1)
@@ -145,9 +170,9 @@ module _ (a : Auction) (targets caps : List Tranches) where
     unfolding revised
     item-by p l true true e f =
         let h = ltb-true p m e in
-        let x = revised-target (a .terms) targets caps p l in
-        let y = revised-cap (a .terms) targets caps p l in
-        let w = revised-start (a .terms) targets caps p l in
+        let x = revised-target (setup a) targets caps p l in
+        let y = revised-cap (setup a) targets caps p l in
+        let w = revised-start (setup a) targets caps p l in
         let c = cut-numbers p h in
         let g : givenFor targets p ≤ 200 = omega (arith, c, L .target p h) in
         let s = L .start p h in
@@ -155,10 +180,10 @@ module _ (a : Auction) (targets caps : List Tranches) where
     item-by p l true false e f =
         let h = ltb-true p m e in
         let d = eqb-false p 0 f in
-        let x = revised-target (a .terms) targets caps p l in
-        let x′ = revised-target (a .terms) targets caps (p - 1) (omega arith) in
-        let y = revised-cap (a .terms) targets caps p l in
-        let w = revised-start (a .terms) targets caps p l in
+        let x = revised-target (setup a) targets caps p l in
+        let x′ = revised-target (setup a) targets caps (p - 1) (omega arith) in
+        let y = revised-cap (setup a) targets caps p l in
+        let w = revised-start (setup a) targets caps p l in
         let c = cut-numbers p h in
         let r = cut-ranked p (omega (arith, d)) h in
         let g : givenFor targets p ≤ 200 = omega (arith, c, L .target p h) in
@@ -168,7 +193,7 @@ module _ (a : Auction) (targets caps : List Tranches) where
         let h = ltb-false p m e in
         let c = cut-past p h l in
         let s = L .no-item p h l in
-        rw (e, revised-target (a .terms) targets caps p l, revised-cap (a .terms) targets caps p l, revised-start (a .terms) targets caps p l)
+        rw (e, revised-target (setup a) targets caps p l, revised-cap (setup a) targets caps p l, revised-start (setup a) targets caps p l)
         (search shown)
 
     revised-within : withinLimits t ≡ true
@@ -176,8 +201,15 @@ module _ (a : Auction) (targets caps : List Tranches) where
     revised-within =
         let w = S .within in
         let i = all-give (itemWithin t) 8 (λ p l. item-by p l (ltb p m) (eqb p 0) refl refl) in
-        let v = sum-ext (targetOf t) (givenFor targets) m (λ p h. revised-target (a .terms) targets caps p (omega (arith, hm))) in
+        let v = sum-ext (targetOf t) (givenFor targets) m (λ p h. revised-target (setup a) targets caps p (omega (arith, hm))) in
         rw v (search (told, shown))
+
+    given-by : (p : ℕ) → p < 8 → (s : Bool) → ltb p m ≡ s → (givenFor targets p < 256) × (givenFor caps p < 256)
+    given-by p l true e = let h = ltb-true p m e in omega (arith, cut-numbers p h, L .target p h, L .cap p h)
+    given-by p l false e = omega (arith, cut-past p (ltb-false p m e) l)
+
+    given-small : (p : ℕ) → p < 8 → (givenFor targets p < 256) × (givenFor caps p < 256)
+    given-small p l = given-by p l (ltb p m) refl
 
     -- nothing was kept, and nothing is
     kept-none : (p : ℕ) → p < m → sumUpTo (λ b. keptIn (recordOf z b p)) n ≡ 0
@@ -189,10 +221,10 @@ module _ (a : Auction) (targets caps : List Tranches) where
 
     -- the revised target is no larger, so that what is above it is, with what was cut, no less than what was above the old one
     above-more : (p : ℕ) → p < m
-        → held (a .records) n p - targetOf (a .terms) p
+        → held (a .records) n p - targetOf (setup a) p
         ≤ held (z .records) n p - targetOf t p + sumUpTo (λ b. goingIn (recordOf a b p) - givenFor caps p) n
     above-more p hp =
-        omega (arith, held-cut L p hp, cut-numbers p hp, revised-target (a .terms) targets caps p (omega (arith, hm)))
+        omega (arith, held-cut L p hp, cut-numbers p hp, revised-target (setup a) targets caps p (omega (arith, hm)))
 
     -- "The auction cannot close here": what is taken off becomes free, and targets only fall
     excess-more : excess a ≤ excess z
@@ -203,8 +235,9 @@ module _ (a : Auction) (targets caps : List Tranches) where
         (λ p hp. omega (
           arith,
           above-more p hp,
-          above-zero (held (a .records) n p) (targetOf (a .terms) p),
-          above-zero (held (z .records) n p) (targetOf t p),
+          above-zero (held (a .records) n p) (targetOf (setup a) p),
+          above-zero (held (z .records) n p) (targetOf (setup z) p),
+          target-z p,
         )) in
         let y = sum-add (λ p. aboveZero (standingOf z p)) (λ p. sumUpTo (λ b. c b p) n) m in
         let w = sum-swap c n m in
@@ -217,26 +250,26 @@ module _ (a : Auction) (targets caps : List Tranches) where
 
     -- ---- it stands
 
-    -- the reduced book in a phase and at prices
-    abbrev with : ℕ → List ℕ → List ℕ → Auction
-    with ph pr be = record {
-      phase = ph;
-      round = a .round;
-      filed = a .filed;
-      terms = t;
-      price = pr;
-      before = be;
-      free = z .free;
-      records = z .records;
-      bids = a .bids;
-    }
+    -- the reduced book in a phase and at the prices of some lanes
+    abbrev with : ℕ → List Lane → Auction
+    with ph ls = withPhase (withLanes z ls) ph
+
+    abbrev price : List Lane → ℕ → ℕ
+    price ls p = getD ls p noLane .price
+
+    abbrev before : List Lane → ℕ → ℕ
+    before ls p = getD ls p noLane .before
+
+    abbrev onwards : List Lane
+    onwards = withPrices z (priceNext z) (beforeNext z) .lanes
 
     -- what the phase and the prices have to meet
-    record Meets (ph : ℕ) (pr be : List ℕ) : Type 0 where
-      within : (p : ℕ) → p < m → (1 ≤ getD pr p 0) × (getD pr p 0 ≤ getD be p 0) × (getD be p 0 ≤ startOf (a .terms) p)
-      fell : (p : ℕ) → p < m → eqb ph bidsOpen ≡ true → targetOf t p < held (z .records) n p → getD pr p 0 < getD be p 0
-      none : (p : ℕ) → m ≤ p → p < 8 → (getD pr p 0 ≡ 0) × (getD be p 0 ≡ 0)
-      phase : phaseStands (with ph pr be) ≡ true
+    record Meets (ph : ℕ) (ls : List Lane) : Type 0 where
+      settings : setup (with ph ls) ≡ t
+      within : (p : ℕ) → p < m → (1 ≤ price ls p) × (price ls p ≤ before ls p) × (before ls p ≤ startOf (setup a) p)
+      fell : (p : ℕ) → p < m → eqb ph bidsOpen ≡ true → targetOf t p < held (z .records) n p → price ls p < before ls p
+      none : (p : ℕ) → m ≤ p → p < 8 → (price ls p ≡ 0) × (before ls p ≡ 0)
+      phase : phaseStands (with ph ls) ≡ true
 
     zero-set : (r : Record) (c : ℕ) → recordZero r ≡ true → recordZero (setTo r c) ≡ true
     zero-set r c e =
@@ -261,15 +294,21 @@ module _ (a : Auction) (targets caps : List Tranches) where
     unfiled : (b : ℕ) → hasFiled a b ≡ false
     unfiled b = rw (cut-unfiled, zero-div (2 ^ b)) refl
 
-    stands-with : (ph : ℕ) (pr be : List ℕ) → Meets ph pr be → Stands (with ph pr be)
+    revised-initial : (b : ℕ) → initialOf t b ≡ initialOf (setup a) b
     unfolding revised
-    stands-with ph pr be M = record {
-      within = revised-within;
-      limits = limits-take t revised-within;
+    revised-initial b = refl
+
+    stands-with : (ph : ℕ) (ls : List Lane) → Meets ph ls → Stands (with ph ls)
+    unfolding reduced revised
+    stands-with ph ls M = record {
+      within = rw (M .settings) revised-within;
+      limits = rw (M .settings) (limits-take t revised-within);
       some-round = S .some-round;
       round = S .round;
-      prices = λ p hp. rw (revised-start (a .terms) targets caps p (omega (arith, hm))) (M .within p hp);
-      fell = M .fell;
+      prices = λ p hp.
+          let x = M .within p hp in
+          (x .0, x .1, omega (arith, x, ap (λ u. startOf u p) (M .settings), revised-start (setup a) targets caps p (omega (arith, hm))));
+      fell = λ p hp u l. M .fell p hp u (omega (arith, ap (λ u. targetOf u p) (M .settings)));
       kept = λ p hp h. absurd (let x : ⊥ = omega (arith, kept-none p hp) in x);
       no-price = M .none;
       exits = λ b p hb hp h. absurd (let x : ⊥ = omega (arith, none-kept b p hb hp) in x);
@@ -279,10 +318,13 @@ module _ (a : Auction) (targets caps : List Tranches) where
       caps = λ b p hb hp.
           let q = ap heldIn (record-of b p (omega (arith, hn)) (omega (arith, hm))) in
           let k = ap keptIn (record-of b p (omega (arith, hn)) (omega (arith, hm))) in
-          omega (arith, none-kept b p hb hp, revised-cap (a .terms) targets caps p (omega (arith, hm)));
+          let c = ap (λ u. capOf u p) (M .settings) in
+          omega (arith, none-kept b p hb hp, revised-cap (setup a) targets caps p (omega (arith, hm)));
       no-bidder = λ k l h. zero-past k l (S .no-bidder k l h);
       no-product = λ k l h. zero-past k l (S .no-product k l h);
-      eligible = λ b hb. omega (arith, row-cut L heldIn (λ r c. omega arith) b hb, S .eligible b hb);
+      eligible = λ b hb.
+          let i : initialOf (setup (with ph ls)) b ≡ initialOf (setup a) b = ap (λ u. initialOf u b) (M .settings) ∙ revised-initial b in
+          omega (arith, row-cut L heldIn (λ r c. omega arith) b hb, S .eligible b hb);
       no-free = no-free-past;
       slots = λ b l. rw (unfiled b) (rw (unfiled b) at (S .slots b l));
       phase = M .phase;
@@ -292,9 +334,10 @@ module _ (a : Auction) (targets caps : List Tranches) where
     start-some p hp = omega (arith, price-is p (omega (arith, hm)), L .start p hp)
 
     -- stopped, at the starting prices
-    ends : stops z ≡ true → Meets stopped (z .price) (z .before)
-    unfolding reduced revised
+    ends : stops z ≡ true → Meets stopped (z .lanes)
+    unfolding reduced
     ends e = record {
+      settings = reduced-setup;
       within = λ p hp.
           let x = price-is p (omega (arith, hm)) in
           let y = before-is p (omega (arith, hm)) in
@@ -304,45 +347,55 @@ module _ (a : Auction) (targets caps : List Tranches) where
       phase = rw (cut-unfiled) (both (lt-ltb 0 (excess z) some-excess) e);
     }
 
-    next-of : stops z ≡ false → (p : ℕ) → p < m
-        → Priced z p (held (z .records) n p) (getD (nextPrices z) p 0) (getD (nextBefores z) p 0)
-    unfolding reduced revised
-    next-of e p hp = next z (limits-take t revised-within) p hp (start-some p hp) e
+    onward-setup : setup (with bidsOpen onwards) ≡ t
+    onward-setup = prices-setup z (priceNext z) (beforeNext z) ∙ reduced-setup
+
+    next-of : stops z ≡ false → (p : ℕ) → p < m → Priced z p (held (z .records) n p) (price onwards p) (before onwards p)
+    unfolding reduced
+    next-of e p hp =
+        rw (
+          price-anew z (priceNext z) (beforeNext z) p (omega (arith, hm)),
+          before-anew z (priceNext z) (beforeNext z) p (omega (arith, hm)),
+        ) (next z (rw reduced-setup (limits-take t revised-within)) p hp (start-some p hp) e)
 
     next-before : stops z ≡ false → (p : ℕ) → p < m → (s : Bool) → ltb (targetOf t p) (held (z .records) n p) ≡ s
-        → getD (nextBefores z) p 0 ≡ startOf (a .terms) p
-    unfolding reduced revised
-    next-before e p hp true f = next-of e p hp .fell (ltb-true _ _ f) .2 ∙ price-is p (omega (arith, hm))
-    next-before e p hp false f = next-of e p hp .stayed (ltb-false _ _ f) .1 ∙ before-is p (omega (arith, hm))
+        → before onwards p ≡ startOf (setup a) p
+    next-before e p hp true f =
+        next-of e p hp .fell (omega (arith, target-z p, ltb-true (targetOf t p) (held (z .records) n p) f)) .2 ∙ price-is p (omega (arith, hm))
+    next-before e p hp false f =
+        next-of e p hp .stayed (omega (arith, target-z p, ltb-false (targetOf t p) (held (z .records) n p) f)) .1 ∙ before-is p (omega (arith, hm))
 
     -- open, at the prices worked out from them
-    goes-on : stops z ≡ false → Meets bidsOpen (nextPrices z) (nextBefores z)
-    unfolding reduced revised
+    goes-on : stops z ≡ false → Meets bidsOpen onwards
+    unfolding reduced
     goes-on e = record {
+      settings = onward-setup;
       within = λ p hp. within-by p hp (ltb (targetOf t p) (held (z .records) n p)) refl;
-      fell = λ p hp o l. let x = next-of e p hp .fell l in omega (arith, x);
+      fell = λ p hp o l. let x = next-of e p hp .fell (omega (arith, target-z p)) in omega (arith, x);
       none = λ p h l.
           let s = L .no-item p h l in
-          next-none z (limits-take t revised-within) p l (price-is p l ∙ s .2) (before-is p l ∙ s .2);
-      phase = later-open (with bidsOpen (nextPrices z) (nextBefores z)) (λ q. omega (arith, cut-second)) some-excess (λ _. kept-none);
+          let y = next-none z (rw reduced-setup (limits-take t revised-within)) p (price-is p l ∙ s .2) (before-is p l ∙ s .2) in
+          (price-anew z (priceNext z) (beforeNext z) p l ∙ y .0, before-anew z (priceNext z) (beforeNext z) p l ∙ y .1);
+      phase = later-open (with bidsOpen onwards) (λ q. omega (arith, cut-second))
+          (omega (arith, some-excess, excess-same z (with bidsOpen onwards) (onward-setup ∙ sym reduced-setup) refl refl)) (λ _. kept-none);
     }
       where
         within-by : (p : ℕ) → p < m → (s : Bool) → ltb (targetOf t p) (held (z .records) n p) ≡ s
-            → (1 ≤ getD (nextPrices z) p 0) × (getD (nextPrices z) p 0 ≤ getD (nextBefores z) p 0) × (getD (nextBefores z) p 0 ≤ startOf (a .terms) p)
+            → (1 ≤ price onwards p) × (price onwards p ≤ before onwards p) × (before onwards p ≤ startOf (setup a) p)
         within-by p hp true f =
-            let x = next-of e p hp .fell (ltb-true _ _ f) in
+            let x = next-of e p hp .fell (omega (arith, target-z p, ltb-true (targetOf t p) (held (z .records) n p) f)) in
             let y = price-is p (omega (arith, hm)) in
             (omega (arith, x), omega (arith, x), omega (arith, x))
         within-by p hp false f =
-            let x = next-of e p hp .stayed (ltb-false _ _ f) in
+            let x = next-of e p hp .stayed (omega (arith, target-z p, ltb-false (targetOf t p) (held (z .records) n p) f)) in
             let y = price-is p (omega (arith, hm)) in
             let w = before-is p (omega (arith, hm)) in
             (omega (arith, x, L .start p hp), omega (arith, x), omega (arith, x))
 
     -- what holds of both ends holds of the auction cut back
     cut-each : (P : Auction → Type 0)
-        → (stops z ≡ true → P (with stopped (z .price) (z .before)))
-        → (stops z ≡ false → P (with bidsOpen (nextPrices z) (nextBefores z)))
+        → (stops z ≡ true → P (with stopped (z .lanes)))
+        → (stops z ≡ false → P (with bidsOpen onwards))
         → P (cutBack a targets caps)
     unfolding cutBack reduced
     cut-each P f g = by (stops z) refl
@@ -353,48 +406,28 @@ module _ (a : Auction) (targets caps : List Tranches) where
 
     -- a cutback leaves what stands standing
     pub cut-stands : Stands (cutBack a targets caps)
-    cut-stands = cut-each Stands (λ e. stands-with stopped (z .price) (z .before) (ends e)) (λ e. stands-with bidsOpen (nextPrices z) (nextBefores z) (goes-on e))
+    cut-stands = cut-each Stands (λ e. stands-with stopped (z .lanes) (ends e)) (λ e. stands-with bidsOpen onwards (goes-on e))
 
     -- the lists keep their lengths
     pub cut-long : Long a → Long (cutBack a targets caps)
-    unfolding reduced revised
-    cut-long K =
-        cut-each Long (λ e. long stopped (z .price) (z .before) (list-long (startOf (a .terms)) 8) (list-long (startOf (a .terms)) 8))
-        (λ e. long bidsOpen (nextPrices z) (nextBefores z) (list-long _ 8) (list-long _ 8))
+    unfolding reduced
+    cut-long K = cut-each Long (λ e. long stopped (z .lanes) (list-long _ 8)) (λ e. long bidsOpen onwards (list-long _ 8))
       where
-        long : (ph : ℕ) (pr be : List ℕ) → length pr ≡ 8 → length be ≡ 8 → Long (with ph pr be)
-        long ph pr be x y = record {
-          item = list-long (λ p. item (givenFor targets p) (givenFor caps p) (startOf (a .terms) p)) 8;
-          eligibility = K .eligibility;
-          row = K .row;
-          price = x;
-          before = y;
-          free = list-long _ 32;
-          records = list-long (λ k. setTo (recordAt (a .records) k) (givenFor caps (k % 8))) 256;
-          bids = K .bids;
-        }
+        long : (ph : ℕ) (ls : List Lane) → length ls ≡ 8 → Long (with ph ls)
+        long ph ls x = record { lanes = x; seats = list-long _ 32; row = K .row; records = list-long _ 256; lines = K .lines }
 
     -- the reduced book is loaded as it is stored, whatever comes after it
-    pub reduced-loads : Long a → a .filed < 4294967296 → loaded (stored (reduced a targets caps)) ≡ reduced a targets caps
-    unfolding reduced revised
+    pub reduced-loads : Long a → a .cards .filed < 4294967296 → loaded (stored (reduced a targets caps)) ≡ reduced a targets caps
+    unfolding reduced
     reduced-loads K h =
-        loads z long (cut-each (λ y. Fits y → Fits z) (λ e. over _ _ _) (λ e. over _ _ _)
-        (fits (cutBack a targets caps) cut-stands (cut-each (λ y. y .filed < 4294967296) (λ e. h) (λ e. h))))
+        loads z long (cut-each (λ y. Fits y → Fits z) (λ e. over _ _) (λ e. over _ _)
+        (fits (cutBack a targets caps) cut-stands (cut-each (λ y. y .cards .filed < 4294967296) (λ e. h) (λ e. h))))
       where
         long : Long z
-        long = record {
-          item = list-long (λ p. item (givenFor targets p) (givenFor caps p) (startOf (a .terms) p)) 8;
-          eligibility = K .eligibility;
-          row = K .row;
-          price = list-long (startOf (a .terms)) 8;
-          before = list-long (startOf (a .terms)) 8;
-          free = list-long _ 32;
-          records = list-long (λ k. setTo (recordAt (a .records) k) (givenFor caps (k % 8))) 256;
-          bids = K .bids;
-        }
+        long = record { lanes = list-long _ 8; seats = list-long _ 32; row = K .row; records = list-long _ 256; lines = K .lines }
 
-        over : (ph : ℕ) (pr be : List ℕ) → Fits (with ph pr be) → Fits z
-        over ph pr be F =
+        over : (ph : ℕ) (ls : List Lane) → Fits (with ph ls) → Fits z
+        over ph ls F =
             let G = fits a S h in record {
               phase = omega arith;
               unit = F .unit;
@@ -404,11 +437,11 @@ module _ (a : Auction) (targets caps : List Tranches) where
               round = F .round;
               statewide = F .statewide;
               filed = F .filed;
-              target = F .target;
-              cap = F .cap;
-              start = F .start;
-              price = λ p l. omega (arith, price-is p l, G .start p l);
-              before = λ p l. omega (arith, before-is p l, G .start p l);
+              target = λ p l. omega (arith, target-is z p l, target-z p, revised-target (setup a) targets caps p l, given-small p l);
+              cap = λ p l. omega (arith, cap-is z p l, ap (λ u. capOf u p) reduced-setup, revised-cap (setup a) targets caps p l, given-small p l);
+              start = λ p l. omega (arith, start-is z p l, ap (λ u. startOf u p) reduced-setup, revised-start (setup a) targets caps p l, start-is a p l, G .start p l);
+              price = λ p l. omega (arith, price-is p l, start-is a p l, G .start p l);
+              before = λ p l. omega (arith, before-is p l, start-is a p l, G .start p l);
               initial = F .initial;
               free = F .free;
               percent = F .percent;
@@ -428,15 +461,15 @@ module _ (a : Auction) (targets caps : List Tranches) where
     pub cut-only : CutOnly a (cutBack a targets caps) targets caps
     unfolding reduced revised
     cut-only =
-        cut-each (λ y. CutOnly a y targets caps) (λ e. only stopped (z .price) (z .before) (inr refl))
-        (λ e. only bidsOpen (nextPrices z) (nextBefores z) (inl refl))
+        cut-each (λ y. CutOnly a y targets caps) (λ e. only stopped (z .lanes) (inr refl) reduced-setup refl)
+        (λ e. only bidsOpen onwards (inl refl) onward-setup (excess-same z (with bidsOpen onwards) (onward-setup ∙ sym reduced-setup) refl refl))
       where
-        only : (ph : ℕ) (pr be : List ℕ) → (ph ≡ bidsOpen) ⊎ (ph ≡ stopped) → CutOnly a (with ph pr be) targets caps
-        only ph pr be h = record {
-          terms = refl;
+        only : (ph : ℕ) (ls : List Lane) → (ph ≡ bidsOpen) ⊎ (ph ≡ stopped) → setup (with ph ls) ≡ t → excess (with ph ls) ≡ excess z
+            → CutOnly a (with ph ls) targets caps
+        only ph ls h s x = record {
+          settings = s;
           round = refl;
-          filed = refl;
-          bids = refl;
+          cards = refl;
           phase = h;
           going = λ b p hb hp. ap goingIn (record-of b p hb hp);
           denied = λ b p hb hp. ap deniedIn (record-of b p hb hp);
@@ -444,7 +477,7 @@ module _ (a : Auction) (targets caps : List Tranches) where
           exit = λ b p hb hp. ap exitIn (record-of b p hb hp);
           moved = row-cut L goingIn (λ r c. omega arith);
           eligible = row-cut L (λ r. goingIn r + deniedIn r) (λ r c. omega arith);
-          excess = excess-more;
+          excess = omega (arith, excess-more);
         }
 
     pub cut-price : (p : ℕ) → p < a .terms .products → CutPrice a (cutBack a targets caps) p
@@ -458,13 +491,14 @@ module _ (a : Auction) (targets caps : List Tranches) where
         })
         opened
       where
-        opened : stops z ≡ false → CutPrice a (with bidsOpen (nextPrices z) (nextBefores z)) p
+        opened : stops z ≡ false → CutPrice a (with bidsOpen onwards) p
         opened e =
             let N = next-of e p hp in
             let x = price-is p (omega (arith, hm)) in
+            let w : targetOf (setup (with bidsOpen onwards)) p ≡ targetOf (setup z) p = ap (λ u. targetOf u p) onward-setup ∙ sym (target-z p) in
             record {
               before = next-before e p hp (ltb (targetOf t p) (held (z .records) n p)) refl;
-              fell = λ o l. let v = N .fell l in (v .0, omega (arith, v));
-              stayed = λ o l. N .stayed l .0 ∙ x;
+              fell = λ o l. let v = N .fell (omega (arith, w)) in (v .0, omega (arith, v));
+              stayed = λ o l. N .stayed (omega (arith, w)) .0 ∙ x;
               ended = λ o. clash refl o;
             }

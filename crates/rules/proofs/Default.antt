@@ -7,7 +7,7 @@ use borrow.Author.Tests.{lt-ltb, le-ltb, eq-eqb}
 use Rattle.rules.specs.declared.Line.{Line}
 use Rattle.rules.specs.declared.Record.{Record}
 use Rattle.rules.specs.declared.Auction.{Auction}
-use Rattle.rules.specs.Settings.{targetOf, capOf}
+use Rattle.rules.specs.Settings.{setup, targetOf, capOf}
 use Rattle.rules.specs.Held.{goingIn, held, ticked, freeOf}
 use Rattle.rules.specs.Bid.{bidIn, withdrawnIn, exitOn, reduction, increases, recordOf, priceAt, beforeAt, defaultLine}
 use Rattle.rules.specs.Standing.{isOpen}
@@ -54,7 +54,7 @@ module _ (a : Auction) (S : Stands a) (o : isOpen a ≡ true) (b : ℕ) (hb : b 
   no-increase = sum-ext _ (λ p. 0) (a .terms .products) (λ p h. omega (arith, is p .bid)) ∙ sum-zero (a .terms .products)
 
   -- the default bid passes 8 to 13
-  pub default-accepted : Accepted (a .terms .products) (ticked a) (capOf (a .terms)) (priceAt a) (beforeAt a) (recordOf a b)
+  pub default-accepted : Accepted (a .terms .products) (ticked a) (capOf (setup a)) (priceAt a) (beforeAt a) (recordOf a b)
       (λ p. defaultLine (ticked a p) (beforeAt a p) (recordOf a b p)) (freeOf a b)
   default-accepted = record {
     caps = λ p h. omega (arith, is p .bid, S .caps b p hb h);
@@ -66,7 +66,7 @@ module _ (a : Auction) (S : Stands a) (o : isOpen a ≡ true) (b : ℕ) (hb : b 
         omega (arith, no-increase);
     exits = λ p h w.
         let x = is p .exit w in
-        let f = S .fell p h o (above-true (held (a .records) (a .terms .bidders) p) (targetOf (a .terms) p) (x .1)) in
+        let f = S .fell p h o (above-true (held (a .records) (a .terms .bidders) p) (targetOf (setup a) p) (x .1)) in
         let y = x .0 in
         omega arith;
     no-exit = λ p h w. is p .no-exit w;

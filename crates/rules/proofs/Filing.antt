@@ -26,40 +26,40 @@ use Rattle.rules.proofs.Bitmap.{setIn-same, setIn-other, setIn-lt, sets
 apart : (b c : ℕ) → (c ≡ b → ⊥) → (b < c) ⊎ (c < b)
 apart b c n = elim (decLt b c) [ yes l ↦ inl l | no l ↦ inr (omega (arith, l, n)) ]
 
-module _ (a : Auction) (b : ℕ) (ls : List Line) (hb : b < 32) (size : length (a .bids) ≡ 256) (long : length ls ≡ 8) where
+module _ (a : Auction) (b : ℕ) (ls : List Line) (hb : b < 32) (size : length (a .cards .lines) ≡ 256) (long : length ls ≡ 8) where
   -- the slot of the bidder holds the lines
   pub slot-filed : slotOf (withCard a b ls) b ≡ ls
   unfolding withCard
-  slot-filed = sym (list-is _ noLine 8 ls long (λ p h. sym (sets-in noLine (a .bids) ls (b * 8) (omega arith) p (omega arith))))
+  slot-filed = sym (list-is _ noLine 8 ls long (λ p h. sym (sets-in noLine (a .cards .lines) ls (b * 8) (omega arith) p (omega arith))))
 
   -- the other slots are as before
   pub slot-other : (c : ℕ) → (c ≡ b → ⊥) → slotOf (withCard a b ls) c ≡ slotOf a c
   unfolding withCard
   slot-other c n = list-ext _ _ 8 (λ p h. by p h (apart b c n))
     where
-      by : (p : ℕ) → p < 8 → (b < c) ⊎ (c < b) → getD (sets (a .bids) (b * 8) ls) (place c p) noLine ≡ getD (a .bids) (place c p) noLine
-      by p h (inl l) = sets-over noLine (a .bids) ls (b * 8) (omega arith) (place c p) (omega arith)
-      by p h (inr l) = sets-under noLine (a .bids) ls (b * 8) (omega arith) (place c p) (omega arith)
+      by : (p : ℕ) → p < 8 → (b < c) ⊎ (c < b) → getD (sets (a .cards .lines) (b * 8) ls) (place c p) noLine ≡ getD (a .cards .lines) (place c p) noLine
+      by p h (inl l) = sets-over noLine (a .cards .lines) ls (b * 8) (omega arith) (place c p) (omega arith)
+      by p h (inr l) = sets-under noLine (a .cards .lines) ls (b * 8) (omega arith) (place c p) (omega arith)
 
 -- the bidder has filed
 pub bit-filed : (a : Auction) (b : ℕ) (ls : List Line) → hasFiled (withCard a b ls) b ≡ true
 unfolding withCard
-bit-filed a b ls = eq-eqb _ 1 (setIn-same (a .filed) b 1 (omega arith))
+bit-filed a b ls = eq-eqb _ 1 (setIn-same (a .cards .filed) b 1 (omega arith))
 
 -- of the others the same have filed
 pub bit-other : (a : Auction) (b : ℕ) (ls : List Line) (c : ℕ) → (c ≡ b → ⊥) → hasFiled (withCard a b ls) c ≡ hasFiled a c
 unfolding withCard
-bit-other a b ls c n = ap (λ x. eqb x 1) (setIn-other (a .filed) b c 1 (omega arith) (apart b c n))
+bit-other a b ls c n = ap (λ x. eqb x 1) (setIn-other (a .cards .filed) b c 1 (omega arith) (apart b c n))
 
 -- the bitmap keeps to its 32 bits
-pub bits-filed : (a : Auction) (b : ℕ) (ls : List Line) → b < 32 → a .filed < 4294967296 → withCard a b ls .filed < 4294967296
+pub bits-filed : (a : Auction) (b : ℕ) (ls : List Line) → b < 32 → a .cards .filed < 4294967296 → withCard a b ls .cards .filed < 4294967296
 unfolding withCard
-bits-filed a b ls h l = setIn-lt 32 (a .filed) b 1 l h (omega arith)
+bits-filed a b ls h l = setIn-lt 32 (a .cards .filed) b 1 l h (omega arith)
 
 -- a card filed changes no judgement
 pub judged-filed : (a : Auction) (b : ℕ) (ls : List Line) (c : ℕ) (ks : List Line) → judged (withCard a b ls) c ks ≡ judged a c ks
 unfolding withCard
-judged-filed a b ls c ks = judged-ext (withCard a b ls) a c ks refl refl refl refl refl
+judged-filed a b ls c ks = judged-ext (withCard a b ls) a c ks refl refl refl refl
 
 module _ (a : Auction) (S : Stands a) (L : Long a) (o : isOpen a ≡ true) (b : ℕ) (hb : b < a .terms .bidders) (ls : List Line)
     (long : length ls ≡ 8) (fine : judged a b ls ≡ 0) (blank : zeroFrom ls (a .terms .products) ≡ true) where
@@ -67,13 +67,13 @@ module _ (a : Auction) (S : Stands a) (L : Long a) (o : isOpen a ≡ true) (b : 
   unfolding withCard
   mine =
       let h : b < 32 = omega (arith, S .limits .bidders) in
-      rw (bit-filed a b ls, slot-filed a b ls h (L .bids) long, judged-filed a b ls b ls, fine, lt-ltb b (a .terms .bidders) hb) blank
+      rw (bit-filed a b ls, slot-filed a b ls h (L .lines) long, judged-filed a b ls b ls, fine, lt-ltb b (a .terms .bidders) hb) blank
 
   theirs : (c : ℕ) → c < 32 → (c ≡ b → ⊥) → slotStands (withCard a b ls) c ≡ true
   unfolding withCard
   theirs c h n =
       let g : b < 32 = omega (arith, S .limits .bidders) in
-      rw (bit-other a b ls c n, slot-other a b ls g (L .bids) long c n, judged-filed a b ls c (slotOf a c)) (S .slots c h)
+      rw (bit-other a b ls c n, slot-other a b ls g (L .lines) long c n, judged-filed a b ls c (slotOf a c)) (S .slots c h)
 
   slot-by : (c : ℕ) → c < 32 → (t : Bool) → eqb c b ≡ t → slotStands (withCard a b ls) c ≡ true
   slot-by c h true e = subst (λ x. slotStands (withCard a b ls) x ≡ true) (sym (eqb-true c b e)) mine
@@ -105,13 +105,5 @@ module _ (a : Auction) (S : Stands a) (L : Long a) (o : isOpen a ≡ true) (b : 
 -- the lists stay as long
 pub filed-long : (a : Auction) (b : ℕ) (ls : List Line) → Long a → Long (withCard a b ls)
 unfolding withCard
-filed-long a b ls L = record {
-  item = L .item;
-  eligibility = L .eligibility;
-  row = L .row;
-  price = L .price;
-  before = L .before;
-  free = L .free;
-  records = L .records;
-  bids = length-sets (a .bids) (b * 8) ls ∙ L .bids;
-}
+filed-long a b ls L =
+    record { lanes = L .lanes; seats = L .seats; row = L .row; records = L .records; lines = length-sets (a .cards .lines) (b * 8) ls ∙ L .lines }

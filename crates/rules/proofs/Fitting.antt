@@ -11,7 +11,7 @@ use Rattle.rules.specs.declared.Line.{Line}
 use Rattle.rules.specs.declared.Record.{Record}
 use Rattle.rules.specs.declared.Auction.{Auction}
 use Rattle.rules.specs.Answers.{closed, stopped}
-use Rattle.rules.specs.Settings.{targetOf, capOf, startOf, initialOf, decrementOf}
+use Rattle.rules.specs.Settings.{setup, targetOf, capOf, startOf, initialOf, decrementOf}
 use Rattle.rules.specs.Card.{noLine, lineFits, lineZero}
 use Rattle.rules.specs.Held.{goingIn, deniedIn, retainedIn, exitIn, heldIn, recordAt, place, ticked, freeOf}
 use Rattle.rules.specs.Bid.{bidIn, withdrawnIn, exitOn, recordOf, priceAt, beforeAt, onProduct, judged, hasFiled, slotOf}
@@ -19,6 +19,7 @@ use Rattle.rules.specs.Standing.{isOpen, recordZero, zeroFrom}
 use Rattle.rules.specs.Layout.{stored, loaded}
 use Rattle.rules.proofs.Sums.{sum-le}
 use Rattle.rules.proofs.Lists.{all-take, list-at}
+use Rattle.rules.proofs.Parts.{target-is, cap-is, start-is, initial-is}
 use Rattle.rules.proofs.Tests.{told, shown}
 use Rattle.rules.specs.Stands.{Long, Stands, Accepted}
 use Rattle.rules.proofs.Judged.{judged-take}
@@ -43,7 +44,7 @@ past-fits ls n z p h l =
 
 module _ (a : Auction) (S : Stands a) where
   exit-by : (b p : ℕ) (ls : List Line)
-      → Accepted (a .terms .products) (ticked a) (capOf (a .terms)) (priceAt a) (beforeAt a) (recordOf a b) (onProduct ls) (freeOf a b)
+      → Accepted (a .terms .products) (ticked a) (capOf (setup a)) (priceAt a) (beforeAt a) (recordOf a b) (onProduct ls) (freeOf a b)
       → p < a .terms .products → (t : Bool) → ltb 0 (withdrawnIn (onProduct ls p)) ≡ t → exitOn (onProduct ls p) < 131072
   exit-by b p ls A h true e = omega (arith, A .exits p h (ltb-true _ _ e), S .prices p h, S .limits .start p h)
   exit-by b p ls A h false e = omega (arith, A .no-exit p h (omega (arith, ltb-false 0 (withdrawnIn (onProduct ls p)) e)))
@@ -72,19 +73,19 @@ module _ (a : Auction) (S : Stands a) where
   slot-by b p hb hp false u e f = past-fits (slotOf a b) 0 (rw e at (S .slots b hb)) p (omega arith) hp
 
   -- every line of a standing state fits a card
-  pub lines-fit : (k : ℕ) → k < 256 → lineFits (getD (a .bids) k noLine) ≡ true
+  pub lines-fit : (k : ℕ) → k < 256 → lineFits (getD (a .cards .lines) k noLine) ≡ true
   lines-fit k h =
       let z : k / 8 * 8 + k % 8 ≡ k = omega arith in
       let x = slot-by (k / 8) (k % 8) (omega arith) (omega arith) (hasFiled a (k / 8)) (ltb (k % 8) (a .terms .products)) refl refl in
-      rw (list-at (λ p. getD (a .bids) (place (k / 8) p) noLine) noLine 8 (k % 8) (omega arith), z) at x
+      rw (list-at (λ p. getD (a .cards .lines) (place (k / 8) p) noLine) noLine 8 (k % 8) (omega arith), z) at x
 
   statewide-most : a .terms .statewide .0 ≤ 1600
   statewide-most =
-      let s = sum-le (targetOf (a .terms)) (λ p. 200) (a .terms .products) (λ p h. S .limits .target p h .1) in
+      let s = sum-le (targetOf (setup a)) (λ p. 200) (a .terms .products) (λ p h. S .limits .target p h .1) in
       omega (arith, sum-const 200 (a .terms .products), S .limits .statewide, S .limits .products)
 
   product-by : (p : ℕ) → p < 8 → (t : Bool) → ltb p (a .terms .products) ≡ t
-      → (targetOf (a .terms) p ≤ 200) × (capOf (a .terms) p ≤ 200) × (startOf (a .terms) p ≤ 99999) × (priceAt a p ≤ 99999) × (beforeAt a p ≤ 99999)
+      → (targetOf (setup a) p ≤ 200) × (capOf (setup a) p ≤ 200) × (startOf (setup a) p ≤ 99999) × (priceAt a p ≤ 99999) × (beforeAt a p ≤ 99999)
   product-by p h true e =
       let l = ltb-true p (a .terms .products) e in
       omega (arith, S .limits .target p l, S .limits .cap p l, S .limits .start p l, S .prices p l)
@@ -94,10 +95,10 @@ module _ (a : Auction) (S : Stands a) where
 
   -- the amounts of one product
   pub product-small : (p : ℕ) → p < 8
-      → (targetOf (a .terms) p ≤ 200) × (capOf (a .terms) p ≤ 200) × (startOf (a .terms) p ≤ 99999) × (priceAt a p ≤ 99999) × (beforeAt a p ≤ 99999)
+      → (targetOf (setup a) p ≤ 200) × (capOf (setup a) p ≤ 200) × (startOf (setup a) p ≤ 99999) × (priceAt a p ≤ 99999) × (beforeAt a p ≤ 99999)
   product-small p h = product-by p h (ltb p (a .terms .products)) refl
 
-  bidder-by : (b : ℕ) → b < 32 → (t : Bool) → ltb b (a .terms .bidders) ≡ t → (initialOf (a .terms) b ≤ 1600) × (freeOf a b ≤ 1600)
+  bidder-by : (b : ℕ) → b < 32 → (t : Bool) → ltb b (a .terms .bidders) ≡ t → (initialOf (setup a) b ≤ 1600) × (freeOf a b ≤ 1600)
   bidder-by b h true e =
       let l = ltb-true b (a .terms .bidders) e in
       omega (arith, statewide-most, S .limits .initial b l, S .eligible b l)
@@ -106,10 +107,10 @@ module _ (a : Auction) (S : Stands a) where
       omega (arith, S .limits .no-bidder b l h, S .no-free b l h)
 
   -- of one bidder
-  pub bidder-small : (b : ℕ) → b < 32 → (initialOf (a .terms) b ≤ 1600) × (freeOf a b ≤ 1600)
+  pub bidder-small : (b : ℕ) → b < 32 → (initialOf (setup a) b ≤ 1600) × (freeOf a b ≤ 1600)
   bidder-small b h = bidder-by b h (ltb b (a .terms .bidders)) refl
 
-  decrement-by : (i : ℕ) → i < 8 → (t : Bool) → ltb i (a .terms .rows) ≡ t → decrementOf (a .terms) i ≤ 500
+  decrement-by : (i : ℕ) → i < 8 → (t : Bool) → ltb i (a .decrements .rows) ≡ t → decrementOf (a .decrements) i ≤ 500
   decrement-by i h true e = S .limits .decrement i (ltb-true _ _ e) .1
   decrement-by i h false e = omega (arith, S .limits .no-row i (ltb-false _ _ e) h)
 
@@ -157,11 +158,11 @@ module _ (a : Auction) (S : Stands a) where
   phase-small = phase-by (isOpen a) (eqb (a .phase) closed) refl refl
 
   line-small : (k : ℕ) → k < 256
-      → (bidIn (getD (a .bids) k noLine) < 256) × (withdrawnIn (getD (a .bids) k noLine) < 256) × (exitOn (getD (a .bids) k noLine) < 131072) × (getD (a .bids) k noLine .priority < 8)
+      → (bidIn (getD (a .cards .lines) k noLine) < 256) × (withdrawnIn (getD (a .cards .lines) k noLine) < 256) × (exitOn (getD (a .cards .lines) k noLine) < 131072) × (getD (a .cards .lines) k noLine .priority < 8)
   line-small k h = let x = lines-fit k h in search told
 
   -- the fields of a standing state fit their bytes; of the bitmap it is said, since its bits past 32 are no bidder's
-  pub fits : a .filed < 4294967296 → Fits a
+  pub fits : a .cards .filed < 4294967296 → Fits a
   fits h = record {
     phase = omega (arith, phase-small);
     unit = omega (arith, S .limits .unit);
@@ -171,15 +172,15 @@ module _ (a : Auction) (S : Stands a) where
     round = omega (arith, S .round);
     statewide = omega (arith, statewide-most);
     filed = h;
-    target = λ p l. omega (arith, product-small p l);
-    cap = λ p l. omega (arith, product-small p l);
-    start = λ p l. omega (arith, product-small p l);
+    target = λ p l. omega (arith, product-small p l, target-is a p l);
+    cap = λ p l. omega (arith, product-small p l, cap-is a p l);
+    start = λ p l. omega (arith, product-small p l, start-is a p l);
     price = λ p l. omega (arith, product-small p l);
     before = λ p l. omega (arith, product-small p l);
-    initial = λ b l. omega (arith, bidder-small b l);
+    initial = λ b l. omega (arith, bidder-small b l, initial-is a b l);
     free = λ b l. omega (arith, bidder-small b l);
     percent = λ i l. omega (arith, S .limits .percent i l);
-    decrement = λ i l. omega (arith, decrement-by i l (ltb i (a .terms .rows)) refl);
+    decrement = λ i l. omega (arith, decrement-by i l (ltb i (a .decrements .rows)) refl);
     going = λ k l. omega (arith, record-small k l);
     denied = λ k l. omega (arith, record-small k l);
     retained = λ k l. omega (arith, record-small k l);
@@ -191,5 +192,5 @@ module _ (a : Auction) (S : Stands a) where
   }
 
   -- a standing state that is stored is loaded
-  pub standing-loads : Long a → a .filed < 4294967296 → loaded (stored a) ≡ a
+  pub standing-loads : Long a → a .cards .filed < 4294967296 → loaded (stored a) ≡ a
   standing-loads L h = loads a L (fits h)

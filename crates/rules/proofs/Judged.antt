@@ -10,7 +10,8 @@ use Rattle.rules.specs.declared.Line.{Line}
 use Rattle.rules.specs.declared.Record.{Record}
 use Rattle.rules.specs.declared.Auction.{Auction}
 use Rattle.rules.specs.Count.{sumUpTo, allUpTo}
-use Rattle.rules.specs.Settings.{capOf}
+use Rattle.rules.specs.Parts.{table, cards, auction}
+use Rattle.rules.specs.Settings.{setup, capOf}
 use Rattle.rules.specs.Held.{goingIn, ticked, freeOf}
 use Rattle.rules.specs.Bid.{bidIn, withdrawnIn, exitOn, reduction, increase, reductions, increases, withdrawals, overCap, wrongReduction, overEligible, wrongWithdrawn, wrongExit, increased, numbered, oneIf, wrongPriority, recordOf, priceAt, beforeAt, onProduct, judged}
 use Rattle.rules.proofs.Sums.{sum-ext, sum-six, and-left}
@@ -122,38 +123,28 @@ module _ (m : ℕ) (tick : ℕ → Bool) (cap price before : ℕ → ℕ) (r : �
 
 -- a card judged 0 is an accepted bid
 pub judged-take : (a : Auction) (b : ℕ) (ls : List Line) → judged a b ls ≡ 0
-    → Accepted (a .terms .products) (ticked a) (capOf (a .terms)) (priceAt a) (beforeAt a) (recordOf a b) (onProduct ls) (freeOf a b)
+    → Accepted (a .terms .products) (ticked a) (capOf (setup a)) (priceAt a) (beforeAt a) (recordOf a b) (onProduct ls) (freeOf a b)
 unfolding judged
 judged-take a b ls e = verdict-take _ _ _ _ _ _ _ _ e
 
 -- an accepted bid is judged 0
 pub judged-give : (a : Auction) (b : ℕ) (ls : List Line)
-    → Accepted (a .terms .products) (ticked a) (capOf (a .terms)) (priceAt a) (beforeAt a) (recordOf a b) (onProduct ls) (freeOf a b)
+    → Accepted (a .terms .products) (ticked a) (capOf (setup a)) (priceAt a) (beforeAt a) (recordOf a b) (onProduct ls) (freeOf a b)
     → judged a b ls ≡ 0
 unfolding judged
 judged-give a b ls A = verdict-give _ _ _ _ _ _ _ _ A
 
 -- with the cards left out
 bare : Auction → Auction
-bare a = record {
-  phase = 0;
-  round = 0;
-  filed = 0;
-  terms = a .terms;
-  price = a .price;
-  before = a .before;
-  free = a .free;
-  records = a .records;
-  bids = [];
-}
+bare a = auction 0 0 (a .terms) (a .lanes) (a .seats) (table 0 []) (a .records) (cards 0 [])
 
 -- they do not matter to a judgement
 judged-bare : (a : Auction) (b : ℕ) (ls : List Line) → judged a b ls ≡ judged (bare a) b ls
 unfolding judged bare
 judged-bare a b ls = refl
 
--- auctions that agree in terms, prices, records and free eligibility judge alike, whoever has filed
-pub judged-ext : (a c : Auction) (b : ℕ) (ls : List Line) → a .terms ≡ c .terms → a .price ≡ c .price → a .before ≡ c .before
-    → a .free ≡ c .free → a .records ≡ c .records → judged a b ls ≡ judged c b ls
+-- auctions that agree in terms, lanes, seats and records judge alike, whoever has filed
+pub judged-ext : (a c : Auction) (b : ℕ) (ls : List Line) → a .terms ≡ c .terms → a .lanes ≡ c .lanes → a .seats ≡ c .seats
+    → a .records ≡ c .records → judged a b ls ≡ judged c b ls
 unfolding bare
-judged-ext a c b ls t x y f r = let e : bare a ≡ bare c = cc in judged-bare a b ls ∙ ap (λ d. judged d b ls) e ∙ sym (judged-bare c b ls)
+judged-ext a c b ls t l s r = let e : bare a ≡ bare c = cc in judged-bare a b ls ∙ ap (λ d. judged d b ls) e ∙ sym (judged-bare c b ls)

@@ -1,5 +1,6 @@
 pub mod Sums
 pub mod Lists
+pub mod Parts
 pub mod Fill
 pub mod Tests
 pub mod Units

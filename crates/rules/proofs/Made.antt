@@ -10,7 +10,7 @@ use Rattle.rules.specs.declared.Line.{Line}
 use Rattle.rules.specs.declared.Record.{Record}
 use Rattle.rules.specs.declared.Place.{Place}
 use Rattle.rules.specs.declared.Auction.{Auction}
-use Rattle.rules.specs.Settings.{targetOf, capOf}
+use Rattle.rules.specs.Settings.{setup, targetOf, capOf}
 use Rattle.rules.specs.Card.{noLine, lineZero}
 use Rattle.rules.specs.Held.{goingIn, deniedIn, retainedIn, exitIn, heldIn, held, ticked, freeOf}
 use Rattle.rules.specs.Bid.{bidIn, withdrawnIn, exitOn, reduction, increase, recordOf, priceAt, beforeAt, onProduct, judged, hasFiled, slotOf, defaultLine, bidOn}
@@ -27,7 +27,7 @@ use Rattle.rules.specs.Keep.{Keepable}
 abbrev pub AllAccepted : Auction → Type 0
 AllAccepted a =
     (b : ℕ) → b < a .terms .bidders
-    → Accepted (a .terms .products) (ticked a) (capOf (a .terms)) (priceAt a) (beforeAt a) (recordOf a b) (bidOn a b) (freeOf a b)
+    → Accepted (a .terms .products) (ticked a) (capOf (setup a)) (priceAt a) (beforeAt a) (recordOf a b) (bidOn a b) (freeOf a b)
 
 -- a place as a record and a bid make it
 pub record Made (r : Record) (l : Line) (x : Place) : Type 0 where
@@ -135,13 +135,13 @@ module _ (a : Auction) where
     no-bid b p hb hp out = by (hasFiled a b) (S .slots b hb)
       where
         by : (t : Bool) → cond t (ltb b n && (eqb (judged a b (slotOf a b)) 0 && zeroFrom (slotOf a b) m)) (zeroFrom (slotOf a b) 0) ≡ true
-            → NoBid (cond t (getD (a .bids) (b * 8 + p) noLine) (defaultLine (ticked a p) (beforeAt a p) (recordOf a b p)))
+            → NoBid (cond t (getD (a .cards .lines) (b * 8 + p) noLine) (defaultLine (ticked a p) (beforeAt a p) (recordOf a b p)))
         by true e =
             let h = out (ltb-true b n (and-left (ltb b n) _ e)) in
             let z = and-right (eqb (judged a b (slotOf a b)) 0) _ (and-right (ltb b n) _ e) in
             let w = all-take (λ p. cond (ltb p m) true (lineZero (onProduct (slotOf a b) p))) 8 z p hp in
             let v : lineZero (onProduct (slotOf a b) p) ≡ true = rw (le-ltb p m h) at w in
-            zero-line _ (rw (list-at (λ p. getD (a .bids) (b * 8 + p) noLine) noLine 8 p hp) at v)
+            zero-line _ (rw (list-at (λ p. getD (a .cards .lines) (b * 8 + p) noLine) noLine 8 p hp) at v)
         by false e = default-none (ticked a p) (beforeAt a p) (recordOf a b p) (no-record b p hb hp out .going)
 
     -- so that every place there is bare
@@ -156,7 +156,7 @@ module _ (a : Auction) where
         by : (s : Bool) → ltb 0 (keptOn a p) ≡ s → keptOn a p ≡ 0
         by true e =
             let x = S .kept p hp (ltb-true 0 (keptOn a p) e) in
-            let y = above-true (held (a .records) n p) (targetOf (a .terms) p) t in
+            let y = above-true (held (a .records) n p) (targetOf (setup a) p) t in
             absurd (let z : ⊥ = omega (arith, x) in z)
         by false e = let x = ltb-false 0 (keptOn a p) e in omega arith
 
@@ -191,10 +191,10 @@ module _ (a : Auction) where
           ∙ none-kept p hp t
 
       -- step 2 can begin
-      pub keepable : Keepable (a .terms .products) (a .terms .bidders) (targetOf (a .terms)) (ticked a) (acceptedAll a)
+      pub keepable : Keepable (a .terms .products) (a .terms .bidders) (targetOf (setup a)) (ticked a) (acceptedAll a)
       keepable = record {
         long = omega (arith, S .limits .bidders, made-long);
-        full = λ p hp t. let x = above-true (held (a .records) n p) (targetOf (a .terms) p) t in omega (arith, column-balance p hp);
+        full = λ p hp t. let x = above-true (held (a .records) n p) (targetOf (setup a) p) t in omega (arith, column-balance p hp);
         owed = row-owed;
         rises = made-rises;
         settled = λ p hp t h. absurd (let z : ⊥ = omega (arith, made-none p hp t) in z);

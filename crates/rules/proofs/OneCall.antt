@@ -15,7 +15,7 @@ use Rattle.rules.specs.declared.Outbid.{Outbid}
 use Rattle.rules.specs.declared.Calculated.{Calculated}
 use Rattle.rules.specs.declared.Calculation.the-variants as calculation
 use Rattle.rules.specs.Answers.{Outcome, outcome, Leaves, Gives, said, answerOf, calculationSaid, unlessRefused, closed, stopped}
-use Rattle.rules.specs.Settings.{settingsFit, termsOf}
+use Rattle.rules.specs.Settings.{settingsFit, setup, setupOf}
 use Rattle.rules.specs.OneCall.{StandsIn, RefusedSame, FiledOnly, CutOnly, CutPrice}
 use Rattle.rules.specs.Held.{excess}
 use Rattle.rules.specs.Round.{drawFits, afterStep2, afterStep4, atRest, onward, stops, settled, calculated}
@@ -32,7 +32,7 @@ use Rattle.rules.proofs.Opening.{blank}
 use Rattle.rules.proofs.Filing.{slot-filed, slot-other, bit-filed, bit-other}
 use Rattle.rules.proofs.Storing.{stored-long, loaded-long, loaded-bits, stored-bytes}
 use Rattle.rules.proofs.Fitting.{phase-small, standing-loads}
-use Rattle.rules.proofs.Calling.{granted, opens, opens-loads, read-long, file-take, files, files-loads}
+use Rattle.rules.proofs.Calling.{granted, opens, opens-loads, opens-setup, read-long, file-take, files, files-loads}
 use Rattle.rules.proofs.Round.{round-stands, round-long}
 use Rattle.rules.proofs.Cutback.{cut-stands, cut-long, cut-only, cut-price}
 
@@ -129,7 +129,7 @@ calculate-same s c k false h = refl
 pub refused-same : (s : List ℕ) → RefusedSame s
 unfolding openCall fileCall calculateCall cutbackCall returnCall writeCard
 refused-same s = record {
-  opening = λ x. unless-same (openNumber s x) (stored (opened (termsOf x))) s;
+  opening = λ x. unless-same (openNumber s x) (stored (opened (setupOf x))) s;
   filing = λ c. unless-same (fileNumber s c) (stored (afterCard c (loaded s))) s;
   calculating = λ draw. calculate-same s (calculated (loaded s) draw) (calculateNumber s draw) (eqb (calculateNumber s draw) 0);
   cutting = λ targets caps. unless-same (cutbackNumber s targets caps) (stored (cutBack (loaded s) targets caps)) s;
@@ -185,17 +185,21 @@ module _ (s : List ℕ) (x : Settings) (new : openNumber s x ≡ 0) (e : length 
       let z = granted (allZero s) _ 17 (omega arith) (l .1) in
       granted (settingsFit x) _ 15 (omega arith) (z .1) .0
 
-  open-bytes : openCall s x .bytes ≡ stored (opened (termsOf x))
+  open-bytes : openCall s x .bytes ≡ stored (opened (setupOf x))
   unfolding openCall
   open-bytes = rw new
 
   -- an opening accepted leaves the auction of its settings,
-  pub open-loaded : loaded (openCall s x .bytes) ≡ opened (termsOf x)
+  pub open-loaded : loaded (openCall s x .bytes) ≡ opened (setupOf x)
   open-loaded = rw open-bytes (opens-loads x open-fits e r)
+
+  -- with the settings given,
+  pub open-setup : setup (loaded (openCall s x .bytes)) ≡ setupOf x
+  open-setup = ap setup open-loaded ∙ opens-setup x e
 
   -- and it stands
   pub open-stands : StandsIn (openCall s x .bytes)
-  open-stands = rw open-bytes (stored-stands (opened (termsOf x)) (opens x open-fits) (opens-loads x open-fits e r))
+  open-stands = rw open-bytes (stored-stands (opened (setupOf x)) (opens x open-fits e) (opens-loads x open-fits e r))
 
 -- a standing state is not opened again: 17, and its bytes stay
 pub open-standing : (s : List ℕ) (x : Settings) → StandsIn s → (answerOf (openCall s x .answer) ≡ said 17 []) × (openCall s x .bytes ≡ s)
@@ -226,7 +230,7 @@ module _ (s : List ℕ) (S : StandsIn s) (c : List ℕ) where
       let b = bidderOn (readCard c (a .terms .products) .card) in
       let ls = readCard c (a .terms .products) .lines in
       let h : b < 32 = omega (arith, file-take a c (file-accepts e) .1, stood s S .limits .bidders) in
-      let n = loaded-long s .bids in
+      let n = loaded-long s .lines in
       let l = read-long c (a .terms .products) in
       rw (file-loaded e) (record {
         filed = bit-filed a b ls;
@@ -248,16 +252,16 @@ module _ (s : List ℕ) (S : StandsIn s) (c : List ℕ) where
 -- ---- calculate
 
 no-cards : (a : Auction) (o : Outbid) (t u : Bool)
-    → cond t (atRest closed a o) (cond u (atRest stopped a o) (onward (atRest closed a o))) .filed ≡ 0
+    → cond t (atRest closed a o) (cond u (atRest stopped a o) (onward (atRest closed a o))) .cards .filed ≡ 0
 no-cards a o true u = refl
 no-cards a o false true = refl
 no-cards a o false false = refl
 
 -- no cards are left of a round
-settled-filed : (a : Auction) (o : Outbid) → settled a o .filed ≡ 0
+settled-filed : (a : Auction) (o : Outbid) → settled a o .cards .filed ≡ 0
 settled-filed a o = no-cards a o (eqb (excess (atRest closed a o)) 0) (stops (atRest closed a o))
 
-round-filed : (a : Auction) (draw : List ℕ) → calculated a draw .auction .filed ≡ 0
+round-filed : (a : Auction) (draw : List ℕ) → calculated a draw .auction .cards .filed ≡ 0
 unfolding calculated
 round-filed a draw = settled-filed a (afterStep4 a draw (afterStep2 a draw .places))
 
@@ -318,7 +322,7 @@ module _ (s : List ℕ) (S : StandsIn s) (targets caps : List Tranches) where
     cut-loads : loaded (stored (cutBack (loaded s) targets caps)) ≡ cutBack (loaded s) targets caps
     cut-loads =
         let o = cutback-accepts e in
-        let f = cut-only (loaded s) targets caps (stood s S) (o .0) (o .1) .filed in
+        let f = ap (λ c. c .filed) (cut-only (loaded s) targets caps (stood s S) (o .0) (o .1) .cards) in
         standing-loads (cutBack (loaded s) targets caps) cut-stood (cut-long (loaded s) targets caps (stood s S) (o .0) (o .1) (loaded-long s))
         (omega (arith, f, S .bits))
 

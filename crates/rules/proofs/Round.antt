@@ -11,7 +11,7 @@ use Rattle.rules.specs.declared.Outbid.{Outbid}
 use Rattle.rules.specs.declared.Auction.{Auction}
 use Rattle.rules.specs.Count.{sumUpTo}
 use Rattle.rules.specs.Answers.{closed}
-use Rattle.rules.specs.Settings.{targetOf}
+use Rattle.rules.specs.Settings.{setup, targetOf}
 use Rattle.rules.specs.Held.{goingIn, deniedIn, keptIn, held, ticked, eligibility}
 use Rattle.rules.specs.Bid.{bidIn, recordOf, bidOn}
 use Rattle.rules.specs.Accept.{placeAt, acceptedAll, keptOf, riseOf, deem, column}
@@ -27,17 +27,17 @@ use Rattle.rules.proofs.Outbidding.{deemed-exact}
 use Rattle.rules.proofs.Made.{AllAccepted, made-none}
 use Rattle.rules.proofs.Booked.{Booked, kept-end, out-end, trail, unticked, kept-ticked, booked}
 use Rattle.rules.specs.OneCall.{PriceAfter}
-use Rattle.rules.proofs.Settled.{Closes, settled-stands, settled-long, settled-prices, settled-closes, settled-terms, settled-held, settled-kept, settled-record, settled-eligibility, rest-loads}
+use Rattle.rules.proofs.Settled.{Closes, settled-stands, settled-long, settled-prices, settled-closes, settled-setup, settled-held, settled-kept, settled-record, settled-eligibility, rest-loads}
 
 module _ (a : Auction) (draw : List ℕ) (S : Stands a) (L : Long a) (op : isOpen a ≡ true)
     (D : drawFits (a .terms .bidders) draw ≡ true) (A : AllAccepted a) where
   B : Booked a (afterStep4 a draw (afterStep2 a draw .places))
   B = booked a draw S L op D A
 
-  -- the terms stay
-  pub round-terms : calculated a draw .auction .terms ≡ a .terms
+  -- the settings stay
+  pub round-setup : setup (calculated a draw .auction) ≡ setup a
   unfolding calculated
-  round-terms = settled-terms a _ S B
+  round-setup = settled-setup a _ S B
 
   -- what stood stands
   pub round-stands : Stands (calculated a draw .auction)
@@ -50,12 +50,12 @@ module _ (a : Auction) (draw : List ℕ) (S : Stands a) (L : Long a) (op : isOpe
   round-long = settled-long a _ S B L
 
   -- the book before step 5 is loaded as it is stored
-  pub round-rest-loads : a .filed < 4294967296
+  pub round-rest-loads : a .cards .filed < 4294967296
       → let o = afterStep4 a draw (afterStep2 a draw .places) in loaded (stored (atRest closed a o)) ≡ atRest closed a o
   round-rest-loads h = rest-loads a _ S B L h
 
   -- the filled part of no product, the lesser of held and target, falls
-  pub round-filled : (p x : ℕ) → p < a .terms .products → x ≤ targetOf (a .terms) p
+  pub round-filled : (p x : ℕ) → p < a .terms .products → x ≤ targetOf (setup a) p
       → x ≤ held (a .records) (a .terms .bidders) p → x ≤ held (calculated a draw .auction .records) (a .terms .bidders) p
   unfolding calculated
   round-filled p x hp g h = omega (arith, settled-held a _ S B p hp, B .filled p x hp g h)

@@ -9,16 +9,19 @@ use borrow.Author.Tests.{eqb-true, eqb-false, eq-eqb, ltb-true, ltb-false, lt-lt
 use lib.ListN.{length, getD, replicate, length-replicate, getD-replicate}
 use lib.Dec.{eqb, ltb}
 use Rattle.rules.specs.declared.Record.{Record}
+use Rattle.rules.specs.declared.Lane.{Lane}
 use Rattle.rules.specs.declared.Outbid.{Outbid}
 use Rattle.rules.specs.declared.Auction.{Auction}
-use Rattle.rules.specs.Count.{sumUpTo, listOf}
+use Rattle.rules.specs.Count.{sumUpTo}
 use Rattle.rules.specs.Answers.{bidsOpen, closed, stopped}
-use Rattle.rules.specs.Settings.{targetOf, startOf}
+use Rattle.rules.specs.Units.{tranches}
+use Rattle.rules.specs.Parts.{noLane, withPhase, withRound, withLanes, withPrices}
+use Rattle.rules.specs.Settings.{setup, targetOf, capOf, startOf, initialOf}
 use Rattle.rules.specs.Card.{noLine, lineZero}
 use Rattle.rules.specs.Held.{nothing, goingIn, deniedIn, retainedIn, exitIn, heldIn, keptIn, recordAt, held, aboveZero, standingOf, freeOf, eligibility, excess}
 use Rattle.rules.specs.Bid.{bidIn, recordOf, priceAt, beforeAt, onProduct, slotOf, bidOn}
 use Rattle.rules.specs.Accept.{placeAt, heldOf, keptOf, column, rowOf}
-use Rattle.rules.specs.Round.{atRest, onward, atBottom, stops, settled}
+use Rattle.rules.specs.Round.{atRest, priceNext, beforeNext, onward, atBottom, stops, settled}
 use Rattle.rules.specs.Standing.{keptOn, recordZero, slotStands, phaseStands}
 use Rattle.rules.proofs.Sums.{sum-ext, sum-le, sum-ge, sum-add}
 use Rattle.rules.proofs.Lists.{clash, both, all-give, list-at, list-long}
@@ -29,16 +32,17 @@ use Rattle.rules.proofs.Places.{worthOf}
 use Rattle.rules.proofs.Made.{NoRecord}
 use Rattle.rules.proofs.Booked.{Booked}
 use Rattle.rules.specs.OneCall.{PriceAfter}
-use Rattle.rules.proofs.Prices.{cond-false, Priced, nextPrices, nextBefores, next, next-none}
+use Rattle.rules.proofs.Prices.{cond-false, Priced, next, next-none}
+use Rattle.rules.proofs.Parts.{excess-same, price-anew, before-anew, prices-setup, free-anew, free-setup}
 use Rattle.rules.specs.Layout.{stored, loaded}
 use Rattle.rules.proofs.Storing.{Fits, loads}
 use Rattle.rules.proofs.Fitting.{fits}
 
 -- where a round closes: no award above a target, the target where it was filled, and for each bidder no less than it bid
 pub record Closes (a z : Auction) : Type 0 where
-  pub within : (p : ℕ) → p < a .terms .products → held (z .records) (a .terms .bidders) p ≤ targetOf (a .terms) p
-  pub filled : (p : ℕ) → p < a .terms .products → targetOf (a .terms) p ≤ held (a .records) (a .terms .bidders) p
-      → held (z .records) (a .terms .bidders) p ≡ targetOf (a .terms) p
+  pub within : (p : ℕ) → p < a .terms .products → held (z .records) (a .terms .bidders) p ≤ targetOf (setup a) p
+  pub filled : (p : ℕ) → p < a .terms .products → targetOf (setup a) p ≤ held (a .records) (a .terms .bidders) p
+      → held (z .records) (a .terms .bidders) p ≡ targetOf (setup a) p
   pub asked : (b : ℕ) → b < a .terms .bidders
       → sumUpTo (λ p. bidIn (bidOn a b p)) (a .terms .products) ≤ sumUpTo (λ p. heldIn (recordOf z b p)) (a .terms .products)
 
@@ -55,35 +59,32 @@ module _ (a : Auction) (o : Outbid) where
   n = a .terms .bidders
 
   abbrev goal : ℕ → ℕ
-  goal = targetOf (a .terms)
+  goal = targetOf (setup a)
 
   abbrev rest : Auction
   rest = atRest closed a o
 
-  -- the book o in some phase and round, at some prices
-  abbrev with : ℕ → ℕ → List ℕ → List ℕ → Auction
-  with ph rd price before = record {
-    phase = ph;
-    round = rd;
-    filed = 0;
-    terms = a .terms;
-    price = price;
-    before = before;
-    free = o .free;
-    records = listOf (λ k. placeAt (o .places) k .holds) 256;
-    bids = replicate 256 noLine;
-  }
+  -- the book o in some phase and round, at the prices of some lanes
+  abbrev with : ℕ → ℕ → List Lane → Auction
+  with ph rd ls = withPhase (withRound (withLanes rest ls) rd) ph
 
-  abbrev prices : List ℕ
-  prices = nextPrices rest
+  abbrev price : List Lane → ℕ → ℕ
+  price ls p = getD ls p noLane .price
 
-  abbrev befores : List ℕ
-  befores = nextBefores rest
+  abbrev before : List Lane → ℕ → ℕ
+  before ls p = getD ls p noLane .before
+
+  abbrev onwards : List Lane
+  onwards = withPrices rest (priceNext rest) (beforeNext rest) .lanes
+
+  -- at rest the settings are those of before
+  rest-setup : setup rest ≡ setup a
+  rest-setup = free-setup a _
 
   settled-by : (P : Auction → Type 0) (x y : Bool)
-      → (x ≡ true → P (with closed (a .round) (a .price) (a .before)))
-      → (x ≡ false → y ≡ true → P (with stopped (a .round) (a .price) (a .before)))
-      → (x ≡ false → y ≡ false → P (with bidsOpen (a .round + 1) prices befores))
+      → (x ≡ true → P (with closed (a .round) (a .lanes)))
+      → (x ≡ false → y ≡ true → P (with stopped (a .round) (a .lanes)))
+      → (x ≡ false → y ≡ false → P (with bidsOpen (a .round + 1) onwards))
       → P (cond x rest (cond y (atRest stopped a o) (onward rest)))
   settled-by P true y f g h = f refl
   settled-by P false true f g h = g refl refl
@@ -91,9 +92,9 @@ module _ (a : Auction) (o : Outbid) where
 
   -- what holds of all three ends holds of the settled auction
   settled-each : (P : Auction → Type 0)
-      → (excess rest ≡ 0 → P (with closed (a .round) (a .price) (a .before)))
-      → (0 < excess rest → stops rest ≡ true → P (with stopped (a .round) (a .price) (a .before)))
-      → (0 < excess rest → stops rest ≡ false → P (with bidsOpen (a .round + 1) prices befores))
+      → (excess rest ≡ 0 → P (with closed (a .round) (a .lanes)))
+      → (0 < excess rest → stops rest ≡ true → P (with stopped (a .round) (a .lanes)))
+      → (0 < excess rest → stops rest ≡ false → P (with bidsOpen (a .round + 1) onwards))
       → P (settled a o)
   settled-each P f g h =
       settled-by P (eqb (excess rest) 0) (stops rest) (λ e. f (eqb-true _ _ e)) (λ e. g (some e)) (λ e. h (some e))
@@ -115,13 +116,16 @@ module _ (a : Auction) (o : Outbid) where
     row-is : (b : ℕ) → b < n → sumUpTo (λ p. heldIn (recordOf rest b p)) m ≡ rowOf heldOf (o .places) b m
     row-is b hb = sum-ext _ _ m (λ p hp. ap heldIn (at b p hb hp))
 
+    free-is : (b : ℕ) → b < 32 → freeOf rest b ≡ getD (o .free) b (tranches 0) .0
+    free-is b h = free-anew a (λ b. getD (o .free) b (tranches 0) .0) b h
+
     -- no cards are left
-    slots-none : (ph rd : ℕ) (pr be : List ℕ) (b : ℕ) → b < 32 → slotStands (with ph rd pr be) b ≡ true
-    slots-none ph rd pr be b hb =
+    slots-none : (ph rd : ℕ) (ls : List Lane) (b : ℕ) → b < 32 → slotStands (with ph rd ls) b ≡ true
+    slots-none ph rd ls b hb =
         rw (zero-div (2 ^ b)) (
-        all-give (λ p. cond (ltb p 0) true (lineZero (onProduct (slotOf (with ph rd pr be) b) p))) 8 (λ p hp. by p hp (ltb p 0)))
+        all-give (λ p. cond (ltb p 0) true (lineZero (onProduct (slotOf (with ph rd ls) b) p))) 8 (λ p hp. by p hp (ltb p 0)))
       where
-        by : (p : ℕ) → p < 8 → (s : Bool) → cond s true (lineZero (onProduct (slotOf (with ph rd pr be) b) p)) ≡ true
+        by : (p : ℕ) → p < 8 → (s : Bool) → cond s true (lineZero (onProduct (slotOf (with ph rd ls) b) p)) ≡ true
         by p hp true = refl
         by p hp false =
             ap lineZero (
@@ -129,16 +133,17 @@ module _ (a : Auction) (o : Outbid) where
             ∙ getD-replicate 256 (b * 8 + p) noLine noLine (omega arith))
 
     -- what the phase, round and prices at the end have to meet
-    record Meets (ph rd : ℕ) (pr be : List ℕ) : Type 0 where
+    record Meets (ph rd : ℕ) (ls : List Lane) : Type 0 where
+      settings : setup (with ph rd ls) ≡ setup a
       some-round : 1 ≤ rd
       round : rd ≤ 4095
-      within : (p : ℕ) → p < m → (1 ≤ getD pr p 0) × (getD pr p 0 ≤ getD be p 0) × (getD be p 0 ≤ startOf (a .terms) p)
-      fell : (p : ℕ) → p < m → eqb ph bidsOpen ≡ true → goal p < held (rest .records) n p → getD pr p 0 < getD be p 0
-      same : (p : ℕ) → p < m → held (rest .records) n p ≡ goal p → (getD pr p 0 ≡ priceAt a p) × (getD be p 0 ≡ beforeAt a p)
-      none : (p : ℕ) → m ≤ p → p < 8 → (getD pr p 0 ≡ 0) × (getD be p 0 ≡ 0)
-      phase : phaseStands (with ph rd pr be) ≡ true
+      within : (p : ℕ) → p < m → (1 ≤ price ls p) × (price ls p ≤ before ls p) × (before ls p ≤ startOf (setup a) p)
+      fell : (p : ℕ) → p < m → eqb ph bidsOpen ≡ true → goal p < held (rest .records) n p → price ls p < before ls p
+      same : (p : ℕ) → p < m → held (rest .records) n p ≡ goal p → (price ls p ≡ priceAt a p) × (before ls p ≡ beforeAt a p)
+      none : (p : ℕ) → m ≤ p → p < 8 → (price ls p ≡ 0) × (before ls p ≡ 0)
+      phase : phaseStands (with ph rd ls) ≡ true
 
-    module _ (ph rd : ℕ) (pr be : List ℕ) (M : Meets ph rd pr be) where
+    module _ (ph rd : ℕ) (ls : List Lane) (M : Meets ph rd ls) where
       -- past the bidders and products in use the records are 0
       zero-past : (k : ℕ) → k < 256 → (k / 8 < n → m ≤ k % 8) → recordZero (recordAt (rest .records) k) ≡ true
       zero-past k hk out =
@@ -148,7 +153,7 @@ module _ (a : Auction) (o : Outbid) where
 
       -- the exit prices are those of the book, at prices that have not moved
       exits-of : (b p : ℕ) → b < n → p < m → 0 < retainedIn (recordOf rest b p)
-          → (getD pr p 0 < exitIn (recordOf rest b p)) × (exitIn (recordOf rest b p) ≤ getD be p 0)
+          → (price ls p < exitIn (recordOf rest b p)) × (exitIn (recordOf rest b p) ≤ before ls p)
       exits-of b p hb hp h =
           let e = at b p hb hp in
           let r = ap retainedIn e in
@@ -159,37 +164,41 @@ module _ (a : Auction) (o : Outbid) where
           let v = M .same p hp (held-is p hp ∙ k .1) in
           (omega (arith, w, v), omega (arith, w, v))
 
+      target : (p : ℕ) → targetOf (setup (with ph rd ls)) p ≡ goal p
+      target p = ap (λ t. targetOf t p) (M .settings)
+
       -- every clause of standing
-      stands-with : Stands (with ph rd pr be)
+      stands-with : Stands (with ph rd ls)
       stands-with = record {
-        within = S .within;
-        limits = S .limits;
+        within = rw (M .settings) (S .within);
+        limits = rw (M .settings) (S .limits);
         some-round = M .some-round;
         round = M .round;
-        prices = M .within;
-        fell = M .fell;
+        prices = λ p hp. let x = M .within p hp in (x .0, x .1, omega (arith, x, ap (λ t. startOf t p) (M .settings)));
+        fell = λ p hp u l. M .fell p hp u (omega (arith, target p));
         kept = λ p hp h.
             let k = B .kept p hp (omega (arith, kept-is p hp)) in
             let v = M .same p hp (held-is p hp ∙ k .1) in
-            (omega (arith, k, v), held-is p hp ∙ k .1);
+            (omega (arith, k, v), held-is p hp ∙ k .1 ∙ sym (target p));
         no-price = M .none;
         exits = exits-of;
         no-exit = λ b p hb hp e.
             let q = at b p hb hp in
             ap exitIn q ∙ B .no-exit b p hb hp (sym (ap retainedIn q) ∙ e);
-        caps = λ b p hb hp. rw (at b p hb hp) (B .caps b p hb hp);
+        caps = λ b p hb hp. omega (arith, ap heldIn (at b p hb hp), B .caps b p hb hp, ap (λ t. capOf t p) (M .settings));
         no-bidder = λ k hk h. zero-past k hk (λ l. absurd (let z : ⊥ = omega arith in z));
         no-product = λ k hk h. zero-past k hk (λ l. h);
-        eligible = λ b hb. omega (arith, row-is b hb, B .eligible b hb, S .eligible b hb);
-        no-free = B .no-free;
-        slots = slots-none ph rd pr be;
+        eligible = λ b hb.
+            omega (arith, row-is b hb, B .eligible b hb, S .eligible b hb, free-is b (omega (arith, S .limits .bidders)), ap (λ t. initialOf t b) (M .settings));
+        no-free = λ b h l. free-is b l ∙ B .no-free b h l;
+        slots = slots-none ph rd ls;
         phase = M .phase;
       }
 
     -- closed or stopped: round and prices stay
-    ends : (ph : ℕ) → eqb ph bidsOpen ≡ false → phaseStands (with ph (a .round) (a .price) (a .before)) ≡ true
-        → Meets ph (a .round) (a .price) (a .before)
+    ends : (ph : ℕ) → eqb ph bidsOpen ≡ false → phaseStands (with ph (a .round) (a .lanes)) ≡ true → Meets ph (a .round) (a .lanes)
     ends ph e f = record {
+      settings = rest-setup;
       some-round = S .some-round;
       round = S .round;
       within = S .prices;
@@ -200,27 +209,43 @@ module _ (a : Auction) (o : Outbid) where
     }
 
     -- open: the next round at the next prices
-    goes-on : 0 < excess rest → stops rest ≡ false → Meets bidsOpen (a .round + 1) prices befores
+    onward-setup : setup (with bidsOpen (a .round + 1) onwards) ≡ setup a
+    onward-setup = prices-setup rest (priceNext rest) (beforeNext rest) ∙ rest-setup
+
+    next-of : stops rest ≡ false → (p : ℕ) → p < m → Priced a p (held (rest .records) n p) (price onwards p) (before onwards p)
+    next-of e p hp =
+        let N = next rest (rw rest-setup (S .limits)) p hp (S .prices p hp .0) e in
+        let t = ap (λ t. targetOf t p) rest-setup in
+        let x = price-anew rest (priceNext rest) (beforeNext rest) p (omega (arith, S .limits .products)) in
+        let y = before-anew rest (priceNext rest) (beforeNext rest) p (omega (arith, S .limits .products)) in
+        rw (x, y) (record { fell = λ l. N .fell (omega arith); stayed = λ l. N .stayed (omega arith) })
+
+    goes-on : 0 < excess rest → stops rest ≡ false → Meets bidsOpen (a .round + 1) onwards
     goes-on h e =
         let r = eqb-false (a .round) 4095 (cond-false (atBottom rest) _ e .1) in record {
+          settings = onward-setup;
           some-round = omega arith;
           round = omega (arith, r, S .round);
           within = λ p hp. within-by p hp (ltb (goal p) (held (rest .records) n p)) refl;
-          fell = λ p hp t l. let x = next rest (S .limits) p hp (S .prices p hp .0) e .fell l in omega (arith, x);
-          same = λ p hp q. next rest (S .limits) p hp (S .prices p hp .0) e .stayed (omega arith);
-          none = λ p h l. let z = S .no-price p h l in next-none rest (S .limits) p l (z .0) (z .1);
-          phase = later-open (with bidsOpen (a .round + 1) prices befores) (λ q. omega (arith, S .some-round)) h
+          fell = λ p hp t l. let x = next-of e p hp .fell l in omega (arith, x);
+          same = λ p hp q. next-of e p hp .stayed (omega arith);
+          none = λ p h l.
+              let z = S .no-price p h l in
+              let y = next-none rest (rw rest-setup (S .limits)) p (z .0) (z .1) in
+              (price-anew rest (priceNext rest) (beforeNext rest) p l ∙ y .0, before-anew rest (priceNext rest) (beforeNext rest) p l ∙ y .1);
+          phase = later-open (with bidsOpen (a .round + 1) onwards) (λ q. omega (arith, S .some-round))
+              (omega (arith, excess-same rest (with bidsOpen (a .round + 1) onwards) (onward-setup ∙ sym rest-setup) refl refl))
               (λ q p hp. kept-is p hp ∙ B .first (omega arith) p hp);
         }
       where
         within-by : (p : ℕ) → p < m → (s : Bool) → ltb (goal p) (held (rest .records) n p) ≡ s
-            → (1 ≤ getD prices p 0) × (getD prices p 0 ≤ getD befores p 0) × (getD befores p 0 ≤ startOf (a .terms) p)
+            → (1 ≤ price onwards p) × (price onwards p ≤ before onwards p) × (before onwards p ≤ startOf (setup a) p)
         within-by p hp true f =
-            let x = next rest (S .limits) p hp (S .prices p hp .0) e .fell (ltb-true _ _ f) in
+            let x = next-of e p hp .fell (ltb-true _ _ f) in
             let y = S .prices p hp in
             (omega (arith, x), omega (arith, x), omega (arith, x, y))
         within-by p hp false f =
-            let x = next rest (S .limits) p hp (S .prices p hp .0) e .stayed (ltb-false _ _ f) in
+            let x = next-of e p hp .stayed (ltb-false _ _ f) in
             let y = S .prices p hp in
             (omega (arith, x, y), omega (arith, x, y), omega (arith, x, y))
 
@@ -228,47 +253,30 @@ module _ (a : Auction) (o : Outbid) where
     pub settled-stands : Stands (settled a o)
     settled-stands =
         settled-each Stands
-        (λ e. stands-with closed _ _ _ (ends closed refl (eq-eqb _ _ e)))
-        (λ h t. stands-with stopped _ _ _ (ends stopped refl (both (lt-ltb 0 (excess rest) h) t)))
-        (λ h e. stands-with bidsOpen _ _ _ (goes-on h e))
+        (λ e. stands-with closed _ _ (ends closed refl (eq-eqb _ _ e)))
+        (λ h t. stands-with stopped _ _ (ends stopped refl (both (lt-ltb 0 (excess rest) h) t)))
+        (λ h e. stands-with bidsOpen _ _ (goes-on h e))
 
     -- the lists keep their lengths
     pub settled-long : Long a → Long (settled a o)
     settled-long L =
-        settled-each Long (λ e. long _ _ _ _ (L .price) (L .before)) (λ h t. long _ _ _ _ (L .price) (L .before))
-        (λ h e. long _ _ _ _ (list-long _ 8) (list-long _ 8))
+        settled-each Long (λ e. long _ _ _ (L .lanes)) (λ h t. long _ _ _ (L .lanes)) (λ h e. long _ _ _ (list-long _ 8))
       where
-        long : (ph rd : ℕ) (pr be : List ℕ) → length pr ≡ 8 → length be ≡ 8 → Long (with ph rd pr be)
-        long ph rd pr be p q = record {
-          item = L .item;
-          eligibility = L .eligibility;
-          row = L .row;
-          price = p;
-          before = q;
-          free = B .long-free;
-          records = list-long (λ k. placeAt (o .places) k .holds) 256;
-          bids = length-replicate 256 noLine;
-        }
+        long : (ph rd : ℕ) (ls : List Lane) → length ls ≡ 8 → Long (with ph rd ls)
+        long ph rd ls l =
+            record { lanes = l; seats = list-long _ 32; row = L .row; records = list-long _ 256; lines = length-replicate 256 noLine }
 
     -- the book at rest is loaded as it is stored, whatever comes after it
-    pub rest-loads : Long a → a .filed < 4294967296 → loaded (stored rest) ≡ rest
-    rest-loads L h = loads rest long (settled-each (λ y. Fits y → Fits rest) (λ e. over _ _ _ _) (λ g t. over _ _ _ _) (λ g e. over _ _ _ _) (
-        fits (settled a o) settled-stands (settled-each (λ y. y .filed < 4294967296) (λ e. omega arith) (λ g t. omega arith) (λ g e. omega arith))))
+    pub rest-loads : Long a → a .cards .filed < 4294967296 → loaded (stored rest) ≡ rest
+    rest-loads L h = loads rest long (settled-each (λ y. Fits y → Fits rest) (λ e. over _ _ _) (λ g t. over _ _ _) (λ g e. over _ _ _) (
+        fits (settled a o) settled-stands (settled-each (λ y. y .cards .filed < 4294967296) (λ e. omega arith) (λ g t. omega arith) (λ g e. omega arith))))
       where
         long : Long rest
-        long = record {
-          item = L .item;
-          eligibility = L .eligibility;
-          row = L .row;
-          price = L .price;
-          before = L .before;
-          free = B .long-free;
-          records = list-long (λ k. placeAt (o .places) k .holds) 256;
-          bids = length-replicate 256 noLine;
-        }
+        long =
+            record { lanes = L .lanes; seats = list-long _ 32; row = L .row; records = list-long _ 256; lines = length-replicate 256 noLine }
 
-        over : (ph rd : ℕ) (pr be : List ℕ) → Fits (with ph rd pr be) → Fits rest
-        over ph rd pr be F =
+        over : (ph rd : ℕ) (ls : List Lane) → Fits (with ph rd ls) → Fits rest
+        over ph rd ls F =
             let G = fits a S h in record {
               phase = omega arith;
               unit = F .unit;
@@ -278,9 +286,9 @@ module _ (a : Auction) (o : Outbid) where
               round = G .round;
               statewide = F .statewide;
               filed = omega arith;
-              target = F .target;
-              cap = F .cap;
-              start = F .start;
+              target = G .target;
+              cap = G .cap;
+              start = G .start;
               price = G .price;
               before = G .before;
               initial = F .initial;
@@ -301,9 +309,9 @@ module _ (a : Auction) (o : Outbid) where
     pub settled-prices : (p : ℕ) → p < a .terms .products → PriceAfter a (settled a o) p
     settled-prices p hp =
         settled-each (λ z. PriceAfter a z p) (λ e. rested closed refl) (λ h t. rested stopped refl)
-        (λ h e. open-by (next rest (S .limits) p hp (S .prices p hp .0) e) (ltb (goal p) (held (rest .records) n p)) refl)
+        (λ h e. open-by (next-of e p hp) (ltb (goal p) (held (rest .records) n p)) refl)
       where
-        rested : (ph : ℕ) → eqb ph bidsOpen ≡ false → PriceAfter a (with ph (a .round) (a .price) (a .before)) p
+        rested : (ph : ℕ) → eqb ph bidsOpen ≡ false → PriceAfter a (with ph (a .round) (a .lanes)) p
         rested ph e = record {
           some = S .prices p hp .0;
           no-rise = omega arith;
@@ -312,8 +320,8 @@ module _ (a : Auction) (o : Outbid) where
           ended = λ t. (refl, refl);
         }
 
-        open-by : Priced rest p (held (rest .records) n p) (getD prices p 0) (getD befores p 0)
-            → (s : Bool) → ltb (goal p) (held (rest .records) n p) ≡ s → PriceAfter a (with bidsOpen (a .round + 1) prices befores) p
+        open-by : Priced a p (held (rest .records) n p) (price onwards p) (before onwards p)
+            → (s : Bool) → ltb (goal p) (held (rest .records) n p) ≡ s → PriceAfter a (with bidsOpen (a .round + 1) onwards) p
         open-by N true f =
             let x = N .fell (ltb-true _ _ f) in record {
               some = x .0;
@@ -341,14 +349,15 @@ module _ (a : Auction) (o : Outbid) where
         low : excess rest ≡ 0 → (p : ℕ) → p < m → held (rest .records) n p ≤ goal p
         low e p hp =
             let x = sum-ge (λ p. aboveZero (standingOf rest p)) m p hp in
-            omega (arith, above-zero (held (rest .records) n p) (goal p))
+            omega (arith, above-zero (held (rest .records) n p) (targetOf (setup rest) p), ap (λ t. targetOf t p) rest-setup)
 
-        closes : excess rest ≡ 0 → Closes a (with closed (a .round) (a .price) (a .before))
+        closes : excess rest ≡ 0 → Closes a (with closed (a .round) (a .lanes))
         closes e = record {
           within = low e;
           filled = λ p hp h. omega (arith, low e p hp, held-is p hp, B .filled p (goal p) hp (omega arith) h);
           asked = λ b hb.
               let x = sum-ge (freeOf rest) n b hb in
+              let f = free-is b (omega (arith, S .limits .bidders)) in
               let y = sum-add (λ p. bidIn (bidOn a b p)) (λ p. deniedIn (recordOf a b p)) m in
               let z = sum-le (λ p. worthOf (placeAt (o .places) (b * 8 + p))) (λ p. heldOf (placeAt (o .places) (b * 8 + p))) m
               (λ p hp. omega arith) in
@@ -356,8 +365,8 @@ module _ (a : Auction) (o : Outbid) where
         }
 
     -- what is the same in all three ends
-    pub settled-terms : settled a o .terms ≡ a .terms
-    settled-terms = settled-each (λ z. z .terms ≡ a .terms) (λ e. refl) (λ h t. refl) (λ h e. refl)
+    pub settled-setup : setup (settled a o) ≡ setup a
+    settled-setup = settled-each (λ z. setup z ≡ setup a) (λ e. rest-setup) (λ h t. rest-setup) (λ h e. onward-setup)
 
     pub settled-record : (b p : ℕ) → b < a .terms .bidders → p < a .terms .products
         → recordOf (settled a o) b p ≡ placeAt (o .places) (b * 8 + p) .holds
@@ -383,5 +392,6 @@ module _ (a : Auction) (o : Outbid) where
     settled-eligibility b hb =
         let x = sum-ext (λ p. goingIn (recordOf rest b p) + deniedIn (recordOf rest b p)) (λ p. worthOf (placeAt (o .places) (b * 8 + p))) m
         (λ p hp. ap (λ r. goingIn r + deniedIn r) (at b p hb hp)) in
+        let f = free-is b (omega (arith, S .limits .bidders)) in
         let e : eligibility rest b ≡ sumUpTo (λ p. bidIn (bidOn a b p) + deniedIn (recordOf a b p)) m = omega (arith, B .worth b hb) in
         settled-each (λ z. eligibility z b ≡ sumUpTo (λ p. bidIn (bidOn a b p) + deniedIn (recordOf a b p)) m) (λ _. e) (λ _ _. e) (λ _ _. e)

@@ -9,17 +9,17 @@ use borrow.Author.Tests.{ltb-true, ltb-false, le-ltb}
 use lib.ListN.{getD}
 use lib.Dec.{ltb}
 use Rattle.rules.specs.declared.Auction.{Auction}
-use Rattle.rules.specs.Units.{tranches}
 use Rattle.rules.specs.Card.{noLine, lineZero}
-use Rattle.rules.specs.Settings.{item, noItem, row, noRow}
 use Rattle.rules.specs.Held.{nothing, place, recordAt}
-use Rattle.rules.specs.Bid.{priceAt, beforeAt, onProduct, hasFiled, slotOf}
-use Rattle.rules.specs.Layout.{read1, read2, read3, recordFrom, lineFrom, termsFrom, loaded, productWidth, bidderWidth, rowWidth, recordWidth, lineWidth, productsFrom, biddersFrom, rowsFrom, recordsFrom, bidsFrom}
+use Rattle.rules.specs.Bid.{onProduct, hasFiled, slotOf}
+use Rattle.rules.specs.Layout.{read1, read2, read3, recordFrom, lineFrom, loaded, productWidth, bidderWidth, rowWidth, recordWidth, lineWidth, productsFrom, biddersFrom, rowsFrom, recordsFrom, bidsFrom}
 use Rattle.rules.specs.Standing.{recordZero}
 use Rattle.rules.specs.Stands.{Stands}
 use Rattle.rules.specs.OneCall.{StandsIn, SpareZero}
 use Rattle.rules.proofs.Lists.{clash, list-at, all-take}
+use Rattle.rules.proofs.Parts.{target-is, cap-is, start-is, initial-is}
 use Rattle.rules.proofs.Tests.{told}
+use Rattle.rules.proofs.Storing.{lane-read, seat-read, row-read, record-read, line-read}
 use Rattle.rules.proofs.OneCall.{stood}
 
 -- ---- a number that is 0 is so byte for byte
@@ -63,42 +63,6 @@ module _ (s : List ℕ) where
       (then _ (k + 5) _ (zero3 _ _ (omega arith) (search told))
       (zero1 _ _ (omega arith) (search told))))
 
--- ---- what is loaded is read
-
-module _ (s : List ℕ) where
-  item-read : (p : ℕ) → p < 8
-      → getD (loaded s .terms .item) p noItem ≡ item (read1 s (p * productWidth + productsFrom)) (read1 s (p * productWidth + (productsFrom + 1))) (read3 s (p * productWidth + (productsFrom + 2)))
-  unfolding loaded termsFrom
-  item-read p h = list-at _ noItem 8 p h
-
-  price-read : (p : ℕ) → p < 8 → priceAt (loaded s) p ≡ read3 s (p * productWidth + (productsFrom + 5))
-  unfolding loaded
-  price-read p h = list-at _ 0 8 p h
-
-  before-read : (p : ℕ) → p < 8 → beforeAt (loaded s) p ≡ read3 s (p * productWidth + (productsFrom + 8))
-  unfolding loaded
-  before-read p h = list-at _ 0 8 p h
-
-  initial-read : (b : ℕ) → b < 32 → getD (loaded s .terms .eligibility) b (tranches 0) ≡ tranches (read2 s (b * bidderWidth + biddersFrom))
-  unfolding loaded termsFrom
-  initial-read b h = list-at _ (tranches 0) 32 b h
-
-  free-read : (b : ℕ) → b < 32 → getD (loaded s .free) b (tranches 0) ≡ tranches (read2 s (b * bidderWidth + (biddersFrom + 2)))
-  unfolding loaded
-  free-read b h = list-at _ (tranches 0) 32 b h
-
-  row-read : (i : ℕ) → i < 8 → getD (loaded s .terms .row) i noRow ≡ row (read2 s (i * rowWidth + rowsFrom)) (read2 s (i * rowWidth + (rowsFrom + 2)))
-  unfolding loaded termsFrom
-  row-read i h = list-at _ noRow 8 i h
-
-  record-read : (k : ℕ) → k < 256 → recordAt (loaded s .records) k ≡ recordFrom s (k * recordWidth + recordsFrom)
-  unfolding loaded
-  record-read k h = list-at _ nothing 256 k h
-
-  line-read : (k : ℕ) → k < 256 → getD (loaded s .bids) k noLine ≡ lineFrom s (k * lineWidth + bidsFrom)
-  unfolding loaded
-  line-read k h = list-at _ noLine 256 k h
-
 -- ---- the slots
 
 module _ (a : Auction) (S : Stands a) (b : ℕ) (hb : b < 32) where
@@ -131,27 +95,31 @@ module _ (s : List ℕ) (I : StandsIn s) where
   S : Stands (loaded s)
   S = stood s I
 
-  product-spare : (p : ℕ) → a .terms .products ≤ p → p < 8 → Zero s (p * productWidth + productsFrom) (p * productWidth + (productsFrom + 11))
-  product-spare p l h =
+  lane-spare : (p : ℕ) → a .terms .products ≤ p → p < 8 → let k = p * productWidth + productsFrom in Zero s k (k + productWidth)
+  lane-spare p l h =
+      let k = p * productWidth + productsFrom in
       let t = S .limits .no-item p l h in
       let x = S .no-price p l h in
-      let e = item-read s p h in
-      then s _ (p * productWidth + (productsFrom + 1)) _ (zero1 s _ _ (omega arith) (omega (arith, ap (λ i. i .target .0) e, t .0)))
-      (then s _ (p * productWidth + (productsFrom + 2)) _ (zero1 s _ _ (omega arith) (omega (arith, ap (λ i. i .cap .0) e, t .1)))
-      (then s _ (p * productWidth + (productsFrom + 5)) _ (zero3 s _ _ (omega arith) (omega (arith, ap (λ i. i .start) e, t .2)))
-      (then s _ (p * productWidth + (productsFrom + 8)) _ (zero3 s _ _ (omega arith) (omega (arith, price-read s p h, x .0)))
-      (zero3 s _ _ (omega arith) (omega (arith, before-read s p h, x .1))))))
+      let e = lane-read s p h in
+      then s _ (k + 1) _ (zero1 s _ _ (omega arith) (omega (arith, ap (λ i. i .target .0) e, t, target-is a p h)))
+      (then s _ (k + 2) _ (zero1 s _ _ (omega arith) (omega (arith, ap (λ i. i .cap .0) e, t, cap-is a p h)))
+      (then s _ (k + 5) _ (zero3 s _ _ (omega arith) (omega (arith, ap (λ i. i .start) e, t, start-is a p h)))
+      (then s _ (k + 8) _ (zero3 s _ _ (omega arith) (omega (arith, ap (λ i. i .price) e, x)))
+      (zero3 s _ _ (omega arith) (omega (arith, ap (λ i. i .before) e, x))))))
 
-  bidder-spare : (b : ℕ) → a .terms .bidders ≤ b → b < 32 → Zero s (b * bidderWidth + biddersFrom) (b * bidderWidth + (biddersFrom + 4))
-  bidder-spare b l h =
-      then s _ (b * bidderWidth + (biddersFrom + 2)) _ (zero2 s _ _ (omega arith) (omega (arith, ap (λ f. f .0) (initial-read s b h), S .limits .no-bidder b l h)))
-      (zero2 s _ _ (omega arith) (omega (arith, ap (λ f. f .0) (free-read s b h), S .no-free b l h)))
+  seat-spare : (b : ℕ) → a .terms .bidders ≤ b → b < 32 → let k = b * bidderWidth + biddersFrom in Zero s k (k + bidderWidth)
+  seat-spare b l h =
+      let k = b * bidderWidth + biddersFrom in
+      let e = seat-read s b h in
+      then s _ (k + 2) _ (zero2 s _ _ (omega arith) (omega (arith, ap (λ i. i .initial .0) e, S .limits .no-bidder b l h, initial-is a b h)))
+      (zero2 s _ _ (omega arith) (omega (arith, ap (λ i. i .free .0) e, S .no-free b l h)))
 
-  row-spare : (i : ℕ) → a .terms .rows ≤ i → i < 8 → Zero s (i * rowWidth + rowsFrom) (i * rowWidth + (rowsFrom + 4))
+  row-spare : (i : ℕ) → a .decrements .rows ≤ i → i < 8 → let k = i * rowWidth + rowsFrom in Zero s k (k + rowWidth)
   row-spare i l h =
+      let k = i * rowWidth + rowsFrom in
       let e = row-read s i h in
       let t = S .limits .no-row i l h in
-      then s _ (i * rowWidth + (rowsFrom + 2)) _ (zero2 s _ _ (omega arith) (omega (arith, ap (λ r. r .percent) e, t .0)))
+      then s _ (k + 2) _ (zero2 s _ _ (omega arith) (omega (arith, ap (λ r. r .percent) e, t .0)))
       (zero2 s _ _ (omega arith) (omega (arith, ap (λ r. r .decrement .0) e, t .1)))
 
   record-zero : (k : ℕ) → k < 256 → (a .terms .bidders ≤ k / 8) ⊎ (a .terms .products ≤ k % 8) → recordZero (recordAt (a .records) k) ≡ true
@@ -163,15 +131,15 @@ module _ (s : List ℕ) (I : StandsIn s) where
       let z = slot-by a S (k / 8) (omega arith) (k % 8) (omega arith) (hasFiled a (k / 8)) refl w in
       let q : k / 8 * 8 + k % 8 ≡ k = omega arith in
       let e : onProduct (slotOf a (k / 8)) (k % 8) ≡ lineFrom s (k * lineWidth + bidsFrom) =
-      list-at (λ p. getD (a .bids) (place (k / 8) p) noLine) noLine 8 (k % 8) (omega arith)
-      ∙ ap (λ i. getD (a .bids) i noLine) q ∙ line-read s k h in
+      list-at (λ p. getD (a .cards .lines) (place (k / 8) p) noLine) noLine 8 (k % 8) (omega arith)
+      ∙ ap (λ i. getD (a .cards .lines) i noLine) q ∙ line-read s k h in
       rw e at z
 
 -- every byte past the counts in use, and of the slots not filed, is 0
 pub spare-zero : (s : List ℕ) → StandsIn s → SpareZero s
 spare-zero s I = record {
-  products = λ p j l h k. product-spare s I p l h _ (omega arith) (omega arith);
-  bidders = λ b j l h k. bidder-spare s I b l h _ (omega arith) (omega arith);
+  products = λ p j l h k. lane-spare s I p l h _ (omega arith) (omega arith);
+  bidders = λ b j l h k. seat-spare s I b l h _ (omega arith) (omega arith);
   rows = λ i j l h k. row-spare s I i l h _ (omega arith) (omega arith);
   records = λ k j h w l. record-spare s (k * recordWidth + recordsFrom) (rw (record-read s k h) at (record-zero s I k h w)) _ (omega arith) (omega arith);
   lines = λ k j h w l. line-spare s (k * lineWidth + bidsFrom) (line-zero s I k h w) _ (omega arith) (omega arith);

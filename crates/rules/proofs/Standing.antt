@@ -6,9 +6,9 @@ use native.Mathlib.Omega.{arith}
 use borrow.Author.Tests.{ltb-true, ltb-false, lt-ltb, le-ltb, leb-true, leb-false, eqb-true, eq-eqb, ne-eqb}
 use lib.Dec.{eqb, ltb}
 use Rattle.rules.specs.declared.Record.{Record}
-use Rattle.rules.specs.declared.Terms.{Terms}
+use Rattle.rules.specs.declared.Setup.{Setup}
 use Rattle.rules.specs.declared.Auction.{Auction}
-use Rattle.rules.specs.Settings.{withinLimits, itemWithin, bidderWithin, rowWithin, targetOf, capOf, startOf, percentOf}
+use Rattle.rules.specs.Settings.{setup, withinLimits, itemWithin, bidderWithin, rowWithin, leastDecrement, targetOf, capOf, startOf, percentOf}
 use Rattle.rules.specs.Held.{retainedIn, exitIn, heldIn, recordAt, held, ticked, excess}
 use Rattle.rules.specs.Bid.{recordOf, priceAt, beforeAt}
 use Rattle.rules.specs.Standing.{implies, keptOn, isOpen, productStands, recordZero, recordWithin, recordStands, bidderStands, slotStands, openStands, stands}
@@ -20,14 +20,14 @@ use Rattle.rules.specs.Stands.{Limits, Stands}
 
 -- ---- settings
 
-module _ (t : Terms) (w : withinLimits t ≡ true) where
-  products-most : t .products ≤ 8
+module _ (t : Setup) (w : withinLimits t ≡ true) where
+  products-most : t .terms .products ≤ 8
   products-most = search told
 
-  bidders-most : t .bidders ≤ 32
+  bidders-most : t .terms .bidders ≤ 32
   bidders-most = search told
 
-  rows-most : t .rows ≤ 8
+  rows-most : t .decrements .rows ≤ 8
   rows-most = search told
 
   all-items : (p : ℕ) → p < 8 → itemWithin t p ≡ true
@@ -36,16 +36,16 @@ module _ (t : Terms) (w : withinLimits t ≡ true) where
   all-bidders : (b : ℕ) → b < 32 → bidderWithin t b ≡ true
   all-bidders = all-take (bidderWithin t) 32 (search told)
 
-  all-rows : (i : ℕ) → i < 8 → rowWithin t i ≡ true
-  all-rows = all-take (rowWithin t) 8 (search told)
+  all-rows : (i : ℕ) → i < 8 → rowWithin leastDecrement (t .decrements) i ≡ true
+  all-rows = all-take (rowWithin leastDecrement (t .decrements)) 8 (search told)
 
-  percent-by : (i : ℕ) (s : Bool) → ltb i (t .rows) ≡ s → i < 8 → percentOf t i ≤ 60000
+  percent-by : (i : ℕ) (s : Bool) → ltb i (t .decrements .rows) ≡ s → i < 8 → percentOf (t .decrements) i ≤ 60000
   percent-by i true e h = let x = rw e at (all-rows i h) in search told
-  percent-by i false e h = let x = rw e at (all-rows i h) in let z : percentOf t i ≡ 0 = search told in omega arith
+  percent-by i false e h = let x = rw e at (all-rows i h) in let z : percentOf (t .decrements) i ≡ 0 = search told in omega arith
 
-  item-in : (p : ℕ) → p < t .products
+  item-in : (p : ℕ) → p < t .terms .products
       → (1 ≤ targetOf t p) × (targetOf t p ≤ 200) × (1 ≤ capOf t p) × (capOf t p ≤ targetOf t p) × (1 ≤ startOf t p) × (startOf t p ≤ 99999)
-  item-in p h = let x = rw (lt-ltb p (t .products) h) at (all-items p (omega (arith, products-most))) in search told
+  item-in p h = let x = rw (lt-ltb p (t .terms .products) h) at (all-items p (omega (arith, products-most))) in search told
 
   -- settings within limits, from their test
   pub limits-take : Limits t
@@ -58,18 +58,18 @@ module _ (t : Terms) (w : withinLimits t ≡ true) where
     rows = rows-most;
     unit = search told;
     target = λ p h. search (item-in p h);
-    ranked = λ p g h. let x = rw (lt-ltb p (t .products) h, ne-eqb p 0 (λ z. omega arith)) at (all-items p (omega (arith, products-most))) in search told;
+    ranked = λ p g h. let x = rw (lt-ltb p (t .terms .products) h, ne-eqb p 0 (λ z. omega arith)) at (all-items p (omega (arith, products-most))) in search told;
     cap = λ p h. search (item-in p h);
     start = λ p h. search (item-in p h);
-    no-item = λ p h l. let x = rw (le-ltb p (t .products) h) at (all-items p l) in search told;
+    no-item = λ p h l. let x = rw (le-ltb p (t .terms .products) h) at (all-items p l) in search told;
     statewide = search told;
-    initial = λ b h. let x = rw (lt-ltb b (t .bidders) h) at (all-bidders b (omega (arith, bidders-most))) in search told;
-    no-bidder = λ b h l. let x = rw (le-ltb b (t .bidders) h) at (all-bidders b l) in search told;
-    first-percent = let x = rw (lt-ltb 0 (t .rows) (search told)) at (all-rows 0 (omega arith)) in search told;
-    rising = λ i g h. let x = rw (lt-ltb i (t .rows) h, ne-eqb i 0 (λ z. omega arith)) at (all-rows i (omega (arith, rows-most))) in search told;
-    percent = λ i. percent-by i (ltb i (t .rows)) refl;
-    decrement = λ i h. let x = rw (lt-ltb i (t .rows) h) at (all-rows i (omega (arith, rows-most))) in search told;
-    no-row = λ i h l. let x = rw (le-ltb i (t .rows) h) at (all-rows i l) in search told;
+    initial = λ b h. let x = rw (lt-ltb b (t .terms .bidders) h) at (all-bidders b (omega (arith, bidders-most))) in search told;
+    no-bidder = λ b h l. let x = rw (le-ltb b (t .terms .bidders) h) at (all-bidders b l) in search told;
+    first-percent = let x = rw (lt-ltb 0 (t .decrements .rows) (search told)) at (all-rows 0 (omega arith)) in search told;
+    rising = λ i g h. let x = rw (lt-ltb i (t .decrements .rows) h, ne-eqb i 0 (λ z. omega arith)) at (all-rows i (omega (arith, rows-most))) in search told;
+    percent = λ i. percent-by i (ltb i (t .decrements .rows)) refl;
+    decrement = λ i h. let x = rw (lt-ltb i (t .decrements .rows) h) at (all-rows i (omega (arith, rows-most))) in search told;
+    no-row = λ i h l. let x = rw (le-ltb i (t .decrements .rows) h) at (all-rows i l) in search told;
   }
 
 -- ---- the state
@@ -80,9 +80,9 @@ and-off true = refl
 and-off false = refl
 
 module _ (a : Auction) (s : stands a ≡ true) where
-  limits : Limits (a .terms)
+  limits : Limits (setup a)
   unfolding stands
-  limits = limits-take (a .terms) (search told)
+  limits = limits-take (setup a) (search told)
 
   product-in : (p : ℕ) → p < 8 → productStands a p ≡ true
   unfolding stands
@@ -101,7 +101,7 @@ module _ (a : Auction) (s : stands a ≡ true) where
   slot-in = all-take (slotStands a) 32 (search told)
 
   record-of : (b p : ℕ) → b < a .terms .bidders → p < a .terms .products
-      → recordWithin (priceAt a p) (beforeAt a p) (capOf (a .terms) p) (recordOf a b p) ≡ true
+      → recordWithin (priceAt a p) (beforeAt a p) (capOf (setup a) p) (recordOf a b p) ≡ true
   record-of b p hb hp =
       let L = limits in
       let q : (b * 8 + p) / 8 ≡ b = omega arith in
@@ -118,7 +118,7 @@ module _ (a : Auction) (s : stands a ≡ true) where
     round = search told;
     prices = λ p h. let x = rw (lt-ltb p (a .terms .products) h) at (product-in p (omega (arith, limits .products))) in search told;
     fell = λ p h o k.
-        let x = rw (lt-ltb p (a .terms .products) h, o, lt-above (held (a .records) (a .terms .bidders) p) (targetOf (a .terms) p) k)
+        let x = rw (lt-ltb p (a .terms .products) h, o, lt-above (held (a .records) (a .terms .bidders) p) (targetOf (setup a) p) k)
         at (product-in p (omega (arith, limits .products))) in
         search told;
     kept = λ p h k.
@@ -188,9 +188,9 @@ module _ (a : Auction) (S : Stands a) where
       let x = S .prices p h in
       let f = implied (isOpen a && ticked a p) (ltb (priceAt a p) (beforeAt a p)) (λ o.
       lt-ltb _ _ (S .fell p h (and-left (isOpen a) (ticked a p) o)
-      (above-true (held (a .records) (a .terms .bidders) p) (targetOf (a .terms) p) (and-right (isOpen a) (ticked a p) o)))) in
+      (above-true (held (a .records) (a .terms .bidders) p) (targetOf (setup a) p) (and-right (isOpen a) (ticked a p) o)))) in
       let k = implied (ltb 0 (keptOn a p))
-      (ltb (priceAt a p) (beforeAt a p) && eqb (held (a .records) (a .terms .bidders) p) (targetOf (a .terms) p)) (λ o.
+      (ltb (priceAt a p) (beforeAt a p) && eqb (held (a .records) (a .terms .bidders) p) (targetOf (setup a) p)) (λ o.
       let y = S .kept p h (ltb-true 0 (keptOn a p) o) in search shown) in
       rw e (search shown)
   product-by p l false e = let x = S .no-price p (ltb-false p (a .terms .products) e) l in rw e (search shown)
@@ -201,7 +201,7 @@ module _ (a : Auction) (S : Stands a) where
       let z : k / 8 * 8 + k % 8 ≡ k = omega arith in
       let hb = ltb-true (k / 8) (a .terms .bidders) e in
       let hp = ltb-true (k % 8) (a .terms .products) f in
-      let r = within-by (priceAt a (k % 8)) (beforeAt a (k % 8)) (capOf (a .terms) (k % 8)) (recordOf a (k / 8) (k % 8))
+      let r = within-by (priceAt a (k % 8)) (beforeAt a (k % 8)) (capOf (setup a) (k % 8)) (recordOf a (k / 8) (k % 8))
       (S .exits (k / 8) (k % 8) hb hp) (S .no-exit (k / 8) (k % 8) hb hp) (S .caps (k / 8) (k % 8) hb hp)
       (ltb 0 (retainedIn (recordOf a (k / 8) (k % 8)))) refl in
       rw (e, f) (rw z at r)

@@ -11,13 +11,13 @@ use lib.Seq.{getD-append-add}
 use lib.Pow.{shr-shr}
 use lib.Dec.{eqb, ltb}
 use Rattle.rules.specs.declared.Auction.{Auction}
-use Rattle.rules.specs.Layout.{bytesUpTo, headBytes, productBytes, bidderBytes, rowBytes, recordBytes, lineBytes, stored, read1, read2, read3, read4, recordFrom, lineFrom, termsFrom, loaded, productWidth, bidderWidth, rowWidth, recordWidth, lineWidth, productsFrom, biddersFrom, rowsFrom, recordsFrom, bidsFrom, stateLength, headWidth}
+use Rattle.rules.specs.Layout.{bytesUpTo, headBytes, laneBytes, seatBytes, rowBytes, recordBytes, lineBytes, stored, read1, read2, read3, read4, laneFrom, seatFrom, rowFrom, recordFrom, lineFrom, loaded, productWidth, bidderWidth, rowWidth, recordWidth, lineWidth, productsFrom, biddersFrom, rowsFrom, recordsFrom, bidsFrom, stateLength, headWidth}
 use Rattle.rules.specs.Card.{noLine}
-use Rattle.rules.specs.Settings.{item, noItem, row, noRow, targetOf, capOf, startOf, initialOf, percentOf, decrementOf}
+use Rattle.rules.specs.Parts.{noLane, laneAt, noSeat, seatAt, noRow}
+use Rattle.rules.specs.Settings.{percentOf, decrementOf}
 use Rattle.rules.specs.Held.{nothing, goingIn, deniedIn, retainedIn, exitIn, recordAt, freeOf}
 use Rattle.rules.specs.Bid.{bidIn, withdrawnIn, exitOn, priceAt, beforeAt}
-use Rattle.rules.specs.Units.{tranches}
-use Rattle.rules.proofs.Lists.{list-is, list-long}
+use Rattle.rules.proofs.Lists.{list-at, list-is, list-long}
 use Rattle.rules.specs.Stands.{Long}
 
 -- every field fits its bytes
@@ -26,27 +26,27 @@ pub record Fits (a : Auction) : Type 0 where
   pub unit : a .terms .unit < 256
   pub products : a .terms .products < 256
   pub bidders : a .terms .bidders < 256
-  pub rows : a .terms .rows < 256
+  pub rows : a .decrements .rows < 256
   pub round : a .round < 65536
   pub statewide : a .terms .statewide .0 < 65536
-  pub filed : a .filed < 4294967296
-  pub target : (p : ℕ) → p < 8 → targetOf (a .terms) p < 256
-  pub cap : (p : ℕ) → p < 8 → capOf (a .terms) p < 256
-  pub start : (p : ℕ) → p < 8 → startOf (a .terms) p < 16777216
+  pub filed : a .cards .filed < 4294967296
+  pub target : (p : ℕ) → p < 8 → laneAt a p .target .0 < 256
+  pub cap : (p : ℕ) → p < 8 → laneAt a p .cap .0 < 256
+  pub start : (p : ℕ) → p < 8 → laneAt a p .start < 16777216
   pub price : (p : ℕ) → p < 8 → priceAt a p < 16777216
   pub before : (p : ℕ) → p < 8 → beforeAt a p < 16777216
-  pub initial : (b : ℕ) → b < 32 → initialOf (a .terms) b < 65536
+  pub initial : (b : ℕ) → b < 32 → seatAt a b .initial .0 < 65536
   pub free : (b : ℕ) → b < 32 → freeOf a b < 65536
-  pub percent : (i : ℕ) → i < 8 → percentOf (a .terms) i < 65536
-  pub decrement : (i : ℕ) → i < 8 → decrementOf (a .terms) i < 65536
+  pub percent : (i : ℕ) → i < 8 → percentOf (a .decrements) i < 65536
+  pub decrement : (i : ℕ) → i < 8 → decrementOf (a .decrements) i < 65536
   pub going : (k : ℕ) → k < 256 → goingIn (recordAt (a .records) k) < 256
   pub denied : (k : ℕ) → k < 256 → deniedIn (recordAt (a .records) k) < 256
   pub retained : (k : ℕ) → k < 256 → retainedIn (recordAt (a .records) k) < 256
   pub exit : (k : ℕ) → k < 256 → exitIn (recordAt (a .records) k) < 16777216
-  pub bid : (k : ℕ) → k < 256 → bidIn (getD (a .bids) k noLine) < 256
-  pub withdrawn : (k : ℕ) → k < 256 → withdrawnIn (getD (a .bids) k noLine) < 256
-  pub leaving : (k : ℕ) → k < 256 → exitOn (getD (a .bids) k noLine) < 16777216
-  pub priority : (k : ℕ) → k < 256 → getD (a .bids) k noLine .priority < 256
+  pub bid : (k : ℕ) → k < 256 → bidIn (getD (a .cards .lines) k noLine) < 256
+  pub withdrawn : (k : ℕ) → k < 256 → withdrawnIn (getD (a .cards .lines) k noLine) < 256
+  pub leaving : (k : ℕ) → k < 256 → exitOn (getD (a .cards .lines) k noLine) < 16777216
+  pub priority : (k : ℕ) → k < 256 → getD (a .cards .lines) k noLine .priority < 256
 
 -- ---- parts of one width
 
@@ -97,81 +97,94 @@ record Part (s part : List ℕ) (w off : ℕ) : Type 0 where
 -- ---- the parts of a state
 
 module _ (a : Auction) where
-  abbrev toProducts : List ℕ
-  toProducts = headBytes a ++ bytesUpTo (productBytes a) 8
+  abbrev laneOf : ℕ → List ℕ
+  laneOf p = laneBytes (laneAt a p)
 
-  abbrev toBidders : List ℕ
-  toBidders = toProducts ++ bytesUpTo (bidderBytes a) 32
+  abbrev seatOf : ℕ → List ℕ
+  seatOf b = seatBytes (seatAt a b)
+
+  abbrev rowOf : ℕ → List ℕ
+  rowOf i = rowBytes (getD (a .decrements .row) i noRow)
+
+  abbrev recordOf : ℕ → List ℕ
+  recordOf k = recordBytes (recordAt (a .records) k)
+
+  abbrev lineOf : ℕ → List ℕ
+  lineOf k = lineBytes (getD (a .cards .lines) k noLine)
+
+  abbrev toLanes : List ℕ
+  toLanes = headBytes a ++ bytesUpTo laneOf 8
+
+  abbrev toSeats : List ℕ
+  toSeats = toLanes ++ bytesUpTo seatOf 32
 
   abbrev toRows : List ℕ
-  toRows = toBidders ++ bytesUpTo (rowBytes a) 8
+  toRows = toSeats ++ bytesUpTo rowOf 8
 
   abbrev toRecords : List ℕ
-  toRecords = toRows ++ bytesUpTo (λ k. recordBytes (recordAt (a .records) k)) 256
+  toRecords = toRows ++ bytesUpTo recordOf 256
 
-  products-long : length toProducts ≡ biddersFrom
-  products-long = behind-long (productBytes a) productWidth (λ k. refl) (headBytes a) headWidth 8 refl
+  lanes-long : length toLanes ≡ biddersFrom
+  lanes-long = behind-long laneOf productWidth (λ k. refl) (headBytes a) headWidth 8 refl
 
-  bidders-long : length toBidders ≡ rowsFrom
-  bidders-long = behind-long (bidderBytes a) bidderWidth (λ k. refl) toProducts biddersFrom 32 products-long
+  seats-long : length toSeats ≡ rowsFrom
+  seats-long = behind-long seatOf bidderWidth (λ k. refl) toLanes biddersFrom 32 lanes-long
 
   rows-long : length toRows ≡ recordsFrom
-  rows-long = behind-long (rowBytes a) rowWidth (λ k. refl) toBidders rowsFrom 8 bidders-long
+  rows-long = behind-long rowOf rowWidth (λ k. refl) toSeats rowsFrom 8 seats-long
 
   records-long : length toRecords ≡ bidsFrom
-  records-long = behind-long (λ k. recordBytes (recordAt (a .records) k)) recordWidth (λ k. refl) toRows recordsFrom 256 rows-long
+  records-long = behind-long recordOf recordWidth (λ k. refl) toRows recordsFrom 256 rows-long
 
   -- the state's length
   pub stored-long : length (stored a) ≡ stateLength
   unfolding stored
-  stored-long = behind-long (λ k. lineBytes (getD (a .bids) k noLine)) lineWidth (λ k. refl) toRecords bidsFrom 256 records-long
+  stored-long = behind-long lineOf lineWidth (λ k. refl) toRecords bidsFrom 256 records-long
 
   in-records : (i : ℕ) → i < bidsFrom → getD (stored a) i 0 ≡ getD toRecords i 0
   unfolding stored
-  in-records i h = under toRecords (bytesUpTo (λ k. lineBytes (getD (a .bids) k noLine)) 256) bidsFrom i records-long h
+  in-records i h = under toRecords (bytesUpTo lineOf 256) bidsFrom i records-long h
 
   in-rows : (i : ℕ) → i < recordsFrom → getD (stored a) i 0 ≡ getD toRows i 0
   in-rows i h = in-records i (omega arith) ∙ under toRows _ recordsFrom i rows-long h
 
-  in-bidders : (i : ℕ) → i < rowsFrom → getD (stored a) i 0 ≡ getD toBidders i 0
-  in-bidders i h = in-rows i (omega arith) ∙ under toBidders _ rowsFrom i bidders-long h
+  in-seats : (i : ℕ) → i < rowsFrom → getD (stored a) i 0 ≡ getD toSeats i 0
+  in-seats i h = in-rows i (omega arith) ∙ under toSeats _ rowsFrom i seats-long h
 
-  in-products : (i : ℕ) → i < biddersFrom → getD (stored a) i 0 ≡ getD toProducts i 0
-  in-products i h = in-bidders i (omega arith) ∙ under toProducts _ biddersFrom i products-long h
+  in-lanes : (i : ℕ) → i < biddersFrom → getD (stored a) i 0 ≡ getD toLanes i 0
+  in-lanes i h = in-seats i (omega arith) ∙ under toLanes _ biddersFrom i lanes-long h
 
   head-part : Part (stored a) (headBytes a) headWidth 0
   head-part = record {
     byte = λ j i l e.
         let q : i ≡ j = omega arith in
-        rw q (in-products j (omega arith) ∙ under (headBytes a) (bytesUpTo (productBytes a) 8) headWidth j refl l);
+        rw q (in-lanes j (omega arith) ∙ under (headBytes a) (bytesUpTo laneOf 8) headWidth j refl l);
   }
 
-  product-part : (p : ℕ) → p < 8 → Part (stored a) (productBytes a p) productWidth (productsFrom + p * productWidth)
-  product-part p h = record {
-    byte = λ j i l e. in-products i (omega arith) ∙ behind (productBytes a) productWidth (λ k. refl) (headBytes a) headWidth 8 i p j refl h l e;
+  lane-part : (p : ℕ) → p < 8 → Part (stored a) (laneOf p) productWidth (productsFrom + p * productWidth)
+  lane-part p h = record {
+    byte = λ j i l e. in-lanes i (omega arith) ∙ behind laneOf productWidth (λ k. refl) (headBytes a) headWidth 8 i p j refl h l e;
   }
 
-  bidder-part : (b : ℕ) → b < 32 → Part (stored a) (bidderBytes a b) bidderWidth (biddersFrom + b * bidderWidth)
-  bidder-part b h = record {
-    byte = λ j i l e. in-bidders i (omega arith) ∙ behind (bidderBytes a) bidderWidth (λ k. refl) toProducts biddersFrom 32 i b j products-long h l e;
+  seat-part : (b : ℕ) → b < 32 → Part (stored a) (seatOf b) bidderWidth (biddersFrom + b * bidderWidth)
+  seat-part b h = record {
+    byte = λ j i l e. in-seats i (omega arith) ∙ behind seatOf bidderWidth (λ k. refl) toLanes biddersFrom 32 i b j lanes-long h l e;
   }
 
-  row-part : (r : ℕ) → r < 8 → Part (stored a) (rowBytes a r) rowWidth (rowsFrom + r * rowWidth)
+  row-part : (r : ℕ) → r < 8 → Part (stored a) (rowOf r) rowWidth (rowsFrom + r * rowWidth)
   row-part r h = record {
-    byte = λ j i l e. in-rows i (omega arith) ∙ behind (rowBytes a) rowWidth (λ k. refl) toBidders rowsFrom 8 i r j bidders-long h l e;
+    byte = λ j i l e. in-rows i (omega arith) ∙ behind rowOf rowWidth (λ k. refl) toSeats rowsFrom 8 i r j seats-long h l e;
   }
 
-  record-part : (k : ℕ) → k < 256 → Part (stored a) (recordBytes (recordAt (a .records) k)) recordWidth (recordsFrom + k * recordWidth)
+  record-part : (k : ℕ) → k < 256 → Part (stored a) (recordOf k) recordWidth (recordsFrom + k * recordWidth)
   record-part k h = record {
-    byte = λ j i l e.
-        in-records i (omega arith)
-        ∙ behind (λ k. recordBytes (recordAt (a .records) k)) recordWidth (λ k. refl) toRows recordsFrom 256 i k j rows-long h l e;
+    byte = λ j i l e. in-records i (omega arith) ∙ behind recordOf recordWidth (λ k. refl) toRows recordsFrom 256 i k j rows-long h l e;
   }
 
-  line-part : (k : ℕ) → k < 256 → Part (stored a) (lineBytes (getD (a .bids) k noLine)) lineWidth (bidsFrom + k * lineWidth)
+  line-part : (k : ℕ) → k < 256 → Part (stored a) (lineOf k) lineWidth (bidsFrom + k * lineWidth)
   unfolding stored
   line-part k h = record {
-    byte = λ j i l e. behind (λ k. lineBytes (getD (a .bids) k noLine)) lineWidth (λ k. refl) toRecords bidsFrom 256 i k j records-long h l e;
+    byte = λ j i l e. behind lineOf lineWidth (λ k. refl) toRecords bidsFrom 256 i k j records-long h l e;
   }
 
 -- ---- and back
@@ -204,35 +217,35 @@ module _ {s part : List ℕ} {w off : ℕ} (P : Part s part w off) where
       (rw (← shr-shr x 8 16, ← shr-shr x 8 8) (three (x / 256) (omega arith))) refl)
 
 module _ (a : Auction) (L : Long a) (F : Fits a) where
-  item-back : (p : ℕ) → p < 8
-      → item (read1 (stored a) (p * productWidth + productsFrom)) (read1 (stored a) (p * productWidth + (productsFrom + 1))) (read3 (stored a) (p * productWidth + (productsFrom + 2))) ≡ getD (a .terms .item) p noItem
-  item-back p h =
-      let P = product-part a p h in
+  lane-back : (p : ℕ) → p < 8 → laneFrom (stored a) (p * productWidth + productsFrom) ≡ laneAt a p
+  lane-back p h =
+      let P = lane-part a p h in
+      let k = p * productWidth + productsFrom in
+      let l = laneAt a p in
       rw (
-        one-at P 0 (p * productWidth + productsFrom) (targetOf (a .terms) p) (omega arith) (omega arith) (F .target p h) refl,
-        one-at P 1 (p * productWidth + (productsFrom + 1)) (capOf (a .terms) p) (omega arith) (omega arith) (F .cap p h) refl,
-        three-at P 2 (p * productWidth + (productsFrom + 2)) (startOf (a .terms) p) (omega arith) (omega arith) (F .start p h) refl refl refl,
+        one-at P 0 k (l .target .0) (omega arith) (omega arith) (F .target p h) refl,
+        one-at P 1 (k + 1) (l .cap .0) (omega arith) (omega arith) (F .cap p h) refl,
+        three-at P 2 (k + 2) (l .start) (omega arith) (omega arith) (F .start p h) refl refl refl,
+        three-at P 5 (k + 5) (l .price) (omega arith) (omega arith) (F .price p h) refl refl refl,
+        three-at P 8 (k + 8) (l .before) (omega arith) (omega arith) (F .before p h) refl refl refl,
       )
 
-  price-back : (p : ℕ) → p < 8 → read3 (stored a) (p * productWidth + (productsFrom + 5)) ≡ priceAt a p
-  price-back p h = three-at (product-part a p h) 5 (p * productWidth + (productsFrom + 5)) (priceAt a p) (omega arith) (omega arith) (F .price p h) refl refl refl
+  seat-back : (b : ℕ) → b < 32 → seatFrom (stored a) (b * bidderWidth + biddersFrom) ≡ seatAt a b
+  seat-back b h =
+      let P = seat-part a b h in
+      let k = b * bidderWidth + biddersFrom in
+      rw (
+        two-at P 0 k (seatAt a b .initial .0) (omega arith) (omega arith) (F .initial b h) refl refl,
+        two-at P 2 (k + 2) (seatAt a b .free .0) (omega arith) (omega arith) (F .free b h) refl refl,
+      )
 
-  before-back : (p : ℕ) → p < 8 → read3 (stored a) (p * productWidth + (productsFrom + 8)) ≡ beforeAt a p
-  before-back p h = three-at (product-part a p h) 8 (p * productWidth + (productsFrom + 8)) (beforeAt a p) (omega arith) (omega arith) (F .before p h) refl refl refl
-
-  initial-back : (b : ℕ) → b < 32 → tranches (read2 (stored a) (b * bidderWidth + biddersFrom)) ≡ getD (a .terms .eligibility) b (tranches 0)
-  initial-back b h =
-      rw (two-at (bidder-part a b h) 0 (b * bidderWidth + biddersFrom) (initialOf (a .terms) b) (omega arith) (omega arith) (F .initial b h) refl refl)
-
-  free-back : (b : ℕ) → b < 32 → tranches (read2 (stored a) (b * bidderWidth + (biddersFrom + 2))) ≡ getD (a .free) b (tranches 0)
-  free-back b h = rw (two-at (bidder-part a b h) 2 (b * bidderWidth + (biddersFrom + 2)) (freeOf a b) (omega arith) (omega arith) (F .free b h) refl refl)
-
-  row-back : (i : ℕ) → i < 8 → row (read2 (stored a) (i * rowWidth + rowsFrom)) (read2 (stored a) (i * rowWidth + (rowsFrom + 2))) ≡ getD (a .terms .row) i noRow
+  row-back : (i : ℕ) → i < 8 → rowFrom (stored a) (i * rowWidth + rowsFrom) ≡ getD (a .decrements .row) i noRow
   row-back i h =
       let P = row-part a i h in
+      let k = i * rowWidth + rowsFrom in
       rw (
-        two-at P 0 (i * rowWidth + rowsFrom) (percentOf (a .terms) i) (omega arith) (omega arith) (F .percent i h) refl refl,
-        two-at P 2 (i * rowWidth + (rowsFrom + 2)) (decrementOf (a .terms) i) (omega arith) (omega arith) (F .decrement i h) refl refl,
+        two-at P 0 k (percentOf (a .decrements) i) (omega arith) (omega arith) (F .percent i h) refl refl,
+        two-at P 2 (k + 2) (decrementOf (a .decrements) i) (omega arith) (omega arith) (F .decrement i h) refl refl,
       )
 
   record-back : (k : ℕ) → k < 256 → recordFrom (stored a) (k * recordWidth + recordsFrom) ≡ recordAt (a .records) k
@@ -246,10 +259,10 @@ module _ (a : Auction) (L : Long a) (F : Fits a) where
         three-at P 3 (k * recordWidth + recordsFrom + 3) (exitIn r) (omega arith) (omega arith) (F .exit k h) refl refl refl,
       )
 
-  line-back : (k : ℕ) → k < 256 → lineFrom (stored a) (k * lineWidth + bidsFrom) ≡ getD (a .bids) k noLine
+  line-back : (k : ℕ) → k < 256 → lineFrom (stored a) (k * lineWidth + bidsFrom) ≡ getD (a .cards .lines) k noLine
   line-back k h =
       let P = line-part a k h in
-      let l = getD (a .bids) k noLine in
+      let l = getD (a .cards .lines) k noLine in
       rw (
         one-at P 0 (k * lineWidth + bidsFrom) (bidIn l) (omega arith) (omega arith) (F .bid k h) refl,
         one-at P 1 (k * lineWidth + bidsFrom + 1) (withdrawnIn l) (omega arith) (omega arith) (F .withdrawn k h) refl,
@@ -257,56 +270,63 @@ module _ (a : Auction) (L : Long a) (F : Fits a) where
         one-at P 5 (k * lineWidth + bidsFrom + 5) (l .priority) (omega arith) (omega arith) (F .priority k h) refl,
       )
 
-  terms-back : termsFrom (stored a) ≡ a .terms
-  unfolding termsFrom
-  terms-back =
-      let t = a .terms in
-      let u : read1 (stored a) 1 ≡ t .unit = one-at (head-part a) 1 1 (t .unit) (omega arith) (omega arith) (F .unit) refl in
-      let m : read1 (stored a) 2 ≡ t .products = one-at (head-part a) 2 2 (t .products) (omega arith) (omega arith) (F .products) refl in
-      let n : read1 (stored a) 3 ≡ t .bidders = one-at (head-part a) 3 3 (t .bidders) (omega arith) (omega arith) (F .bidders) refl in
-      let r : read1 (stored a) 4 ≡ t .rows = one-at (head-part a) 4 4 (t .rows) (omega arith) (omega arith) (F .rows) refl in
-      let s : read2 (stored a) 7 ≡ t .statewide .0 = two-at (head-part a) 7 7 (t .statewide .0) (omega arith) (omega arith) (F .statewide) refl refl in
-      let i = list-is _ noItem 8 (t .item) (L .item) (λ p h. sym (item-back p h)) in
-      let e = list-is _ (tranches 0) 32 (t .eligibility) (L .eligibility) (λ b h. sym (initial-back b h)) in
-      let w = list-is _ noRow 8 (t .row) (L .row) (λ j h. sym (row-back j h)) in
-      rw (u, m, n, r, s, ← i, ← e, ← w)
-
   -- what is stored is loaded
   pub loads : loaded (stored a) ≡ a
   unfolding loaded
   loads =
-      let f : read1 (stored a) 0 ≡ a .phase = one-at (head-part a) 0 0 (a .phase) (omega arith) (omega arith) (F .phase) refl in
-      let r : read2 (stored a) 5 ≡ a .round = two-at (head-part a) 5 5 (a .round) (omega arith) (omega arith) (F .round) refl refl in
-      let m : read4 (stored a) 9 ≡ a .filed = four-at (head-part a) 9 9 (a .filed) (omega arith) (omega arith) (F .filed) refl refl refl refl in
-      let x = list-is _ 0 8 (a .price) (L .price) (λ p h. sym (price-back p h)) in
-      let y = list-is _ 0 8 (a .before) (L .before) (λ p h. sym (before-back p h)) in
-      let e = list-is _ (tranches 0) 32 (a .free) (L .free) (λ b h. sym (free-back b h)) in
+      let t = a .terms in
+      let H = head-part a in
+      let f : read1 (stored a) 0 ≡ a .phase = one-at H 0 0 (a .phase) (omega arith) (omega arith) (F .phase) refl in
+      let u : read1 (stored a) 1 ≡ t .unit = one-at H 1 1 (t .unit) (omega arith) (omega arith) (F .unit) refl in
+      let m : read1 (stored a) 2 ≡ t .products = one-at H 2 2 (t .products) (omega arith) (omega arith) (F .products) refl in
+      let n : read1 (stored a) 3 ≡ t .bidders = one-at H 3 3 (t .bidders) (omega arith) (omega arith) (F .bidders) refl in
+      let w : read1 (stored a) 4 ≡ a .decrements .rows = one-at H 4 4 (a .decrements .rows) (omega arith) (omega arith) (F .rows) refl in
+      let r : read2 (stored a) 5 ≡ a .round = two-at H 5 5 (a .round) (omega arith) (omega arith) (F .round) refl refl in
+      let s : read2 (stored a) 7 ≡ t .statewide .0 = two-at H 7 7 (t .statewide .0) (omega arith) (omega arith) (F .statewide) refl refl in
+      let c : read4 (stored a) 9 ≡ a .cards .filed = four-at H 9 9 (a .cards .filed) (omega arith) (omega arith) (F .filed) refl refl refl refl in
+      let x = list-is _ noLane 8 (a .lanes) (L .lanes) (λ p h. sym (lane-back p h)) in
+      let y = list-is _ noSeat 32 (a .seats) (L .seats) (λ b h. sym (seat-back b h)) in
+      let z = list-is _ noRow 8 (a .decrements .row) (L .row) (λ i h. sym (row-back i h)) in
       let h = list-is _ nothing 256 (a .records) (L .records) (λ k h. sym (record-back k h)) in
-      let b = list-is _ noLine 256 (a .bids) (L .bids) (λ k h. sym (line-back k h)) in
-      rw (f, r, m, terms-back, ← x, ← y, ← e, ← h, ← b)
+      let b = list-is _ noLine 256 (a .cards .lines) (L .lines) (λ k h. sym (line-back k h)) in
+      rw (f, u, m, n, w, r, s, c, ← x, ← y, ← z, ← h, ← b)
 
 -- ---- any bytes
 
 -- the lists that are loaded are as long as the arrays
 pub loaded-long : (s : List ℕ) → Long (loaded s)
-unfolding loaded termsFrom
-loaded-long s = record {
-  item = list-long _ 8;
-  eligibility = list-long _ 32;
-  row = list-long _ 8;
-  price = list-long _ 8;
-  before = list-long _ 8;
-  free = list-long _ 32;
-  records = list-long _ 256;
-  bids = list-long _ 256;
-}
+unfolding loaded
+loaded-long s = record { lanes = list-long _ 8; seats = list-long _ 32; row = list-long _ 8; records = list-long _ 256; lines = list-long _ 256 }
+
+-- what is loaded is read
+
+module _ (s : List ℕ) where
+  pub lane-read : (p : ℕ) → p < 8 → laneAt (loaded s) p ≡ laneFrom s (p * productWidth + productsFrom)
+  unfolding loaded
+  lane-read p h = list-at _ noLane 8 p h
+
+  pub seat-read : (b : ℕ) → b < 32 → seatAt (loaded s) b ≡ seatFrom s (b * bidderWidth + biddersFrom)
+  unfolding loaded
+  seat-read b h = list-at _ noSeat 32 b h
+
+  pub row-read : (i : ℕ) → i < 8 → getD (loaded s .decrements .row) i noRow ≡ rowFrom s (i * rowWidth + rowsFrom)
+  unfolding loaded
+  row-read i h = list-at _ noRow 8 i h
+
+  pub record-read : (k : ℕ) → k < 256 → recordAt (loaded s .records) k ≡ recordFrom s (k * recordWidth + recordsFrom)
+  unfolding loaded
+  record-read k h = list-at _ nothing 256 k h
+
+  pub line-read : (k : ℕ) → k < 256 → getD (loaded s .cards .lines) k noLine ≡ lineFrom s (k * lineWidth + bidsFrom)
+  unfolding loaded
+  line-read k h = list-at _ noLine 256 k h
 
 -- each element is a byte
 pub record Bytes (s : List ℕ) : Type 0 where
   pub small : (i : ℕ) → getD s i 0 < 256
 
 -- a bitmap that is loaded has 32 bits
-pub loaded-bits : (s : List ℕ) → Bytes s → loaded s .filed < 4294967296
+pub loaded-bits : (s : List ℕ) → Bytes s → loaded s .cards .filed < 4294967296
 unfolding loaded
 loaded-bits s B = omega (arith, B .small 9, B .small 10, B .small 11, B .small 12)
 

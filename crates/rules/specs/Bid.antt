@@ -8,7 +8,8 @@ use Rattle.rules.specs.declared.Line.{Line}
 use Rattle.rules.specs.declared.Record.{Record}
 use Rattle.rules.specs.declared.Auction.{Auction}
 use Rattle.rules.specs.Count.{sumUpTo, allUpTo, listOf}
-use Rattle.rules.specs.Settings.{capOf}
+use Rattle.rules.specs.Parts.{laneAt}
+use Rattle.rules.specs.Settings.{setup, capOf}
 use Rattle.rules.specs.Card.{line, noLine}
 use Rattle.rules.specs.Held.{goingIn, deniedIn, retainedIn, recordAt, place, ticked, freeOf}
 
@@ -100,10 +101,10 @@ abbrev pub recordOf : Auction → ℕ → ℕ → Record
 recordOf a b p = recordAt (a .records) (place b p)
 
 abbrev pub priceAt : Auction → ℕ → ℕ
-priceAt a p = getD (a .price) p 0
+priceAt a p = laneAt a p .price
 
 abbrev pub beforeAt : Auction → ℕ → ℕ
-beforeAt a p = getD (a .before) p 0
+beforeAt a p = laneAt a p .before
 
 abbrev pub onProduct : List Line → ℕ → Line
 onProduct ls p = getD ls p noLine
@@ -111,7 +112,7 @@ onProduct ls p = getD ls p noLine
 -- 8 to 13 of bidder b's lines, each judged over all products before the next; 0 where none applies
 unfoldable pub judged : Auction → ℕ → List Line → ℕ
 judged a b ls =
-    cond (overCap (a .terms .products) (recordOf a b) (onProduct ls) (capOf (a .terms))) 8
+    cond (overCap (a .terms .products) (recordOf a b) (onProduct ls) (capOf (setup a))) 8
     (cond (wrongReduction (a .terms .products) (recordOf a b) (onProduct ls) (ticked a)) 9
     (cond (overEligible (a .terms .products) (recordOf a b) (onProduct ls) (freeOf a b)) 10
     (cond (wrongWithdrawn (a .terms .products) (recordOf a b) (onProduct ls) (freeOf a b)) 11
@@ -121,11 +122,11 @@ judged a b ls =
 
 -- "A bitmap marks who has filed"
 abbrev pub hasFiled : Auction → ℕ → Bool
-hasFiled a b = eqb (a .filed / 2 ^ b % 2) 1
+hasFiled a b = eqb (a .cards .filed / 2 ^ b % 2) 1
 
 -- the lines that bidder b has filed
 abbrev pub slotOf : Auction → ℕ → List Line
-slotOf a b = listOf (λ p. getD (a .bids) (place b p) noLine) 8
+slotOf a b = listOf (λ p. getD (a .cards .lines) (place b p) noLine) 8
 
 -- "No card: the default bid is 0 on each ticked product, all withdrawn at exit price q, and b = g elsewhere."
 abbrev pub defaultLine : Bool → ℕ → Record → Line
@@ -135,4 +136,4 @@ defaultLine tick q r =
 -- the bid of bidder b on product p: its card's, or the default
 abbrev pub bidOn : Auction → ℕ → ℕ → Line
 bidOn a b p =
-    cond (hasFiled a b) (getD (a .bids) (place b p) noLine) (defaultLine (ticked a p) (beforeAt a p) (recordOf a b p))
+    cond (hasFiled a b) (getD (a .cards .lines) (place b p) noLine) (defaultLine (ticked a p) (beforeAt a p) (recordOf a b p))

@@ -13,7 +13,7 @@ use Rattle.rules.specs.declared.Card.{Card}
 use Rattle.rules.specs.declared.Card.the-variants as card
 use Rattle.rules.specs.declared.CardRead.{CardRead}
 use Rattle.rules.specs.declared.Settings.{Settings}
-use Rattle.rules.specs.declared.Terms.{Terms}
+use Rattle.rules.specs.declared.Setup.{Setup}
 use Rattle.rules.specs.declared.Auction.{Auction}
 use Rattle.rules.specs.declared.Calculated.{Calculated}
 use Rattle.rules.specs.declared.Answer.{Answer}
@@ -27,9 +27,10 @@ use Rattle.rules.specs.declared.Volume.{Volume}
 use Rattle.rules.specs.declared.Volume.the-variants as volume
 use Rattle.rules.specs.Count.{listOf}
 use Rattle.rules.specs.Answers.{Outcome, outcome, unlessRefused, bidsOpen, closed}
-use Rattle.rules.specs.Settings.{settingsFit, termsOf, startOf}
+use Rattle.rules.specs.Parts.{lane, seat, cards, noCards, auction, withCards}
+use Rattle.rules.specs.Settings.{settingsFit, setupOf, targetOf, capOf, startOf, initialOf}
 use Rattle.rules.specs.Bits.{setIn}
-use Rattle.rules.specs.Card.{noLine, readCard, writeCard}
+use Rattle.rules.specs.Card.{readCard, writeCard}
 use Rattle.rules.specs.Held.{nothing}
 use Rattle.rules.specs.Bid.{judged}
 use Rattle.rules.specs.Round.{drawFits, calculated}
@@ -39,18 +40,12 @@ use Rattle.rules.specs.Layout.{stateLength, stored, loaded, allZero}
 use Rattle.rules.specs.Standing.{isOpen, stands}
 
 -- "Before round 1, g = d = r = 0 and f is the initial eligibility"; round 1 opens at the starting prices
-unfoldable pub opened : Terms → Auction
-opened t = record {
-  phase = bidsOpen;
-  round = 1;
-  filed = 0;
-  terms = t;
-  price = listOf (startOf t) 8;
-  before = listOf (startOf t) 8;
-  free = t .eligibility;
-  records = replicate 256 nothing;
-  bids = replicate 256 noLine;
-}
+unfoldable pub opened : Setup → Auction
+opened t =
+    auction bidsOpen 1 (t .terms)
+    (listOf (λ p. lane (targetOf t p) (capOf t p) (startOf t p) (startOf t p) (startOf t p)) 8)
+    (listOf (λ b. seat (initialOf t b) (initialOf t b)) 32)
+    (t .decrements) (replicate 256 nothing) noCards
 
 -- ---- open: 1, 17, 15
 
@@ -58,7 +53,7 @@ abbrev pub openNumber : List ℕ → Settings → ℕ
 openNumber s x = cond (eqb (length s) stateLength) (cond (allZero s) (cond (settingsFit x) 0 15) 17) 1
 
 unfoldable pub openCall : List ℕ → Settings → Outcome Answer
-openCall s x = unlessRefused (openNumber s x) (stored (opened (termsOf x))) s
+openCall s x = unlessRefused (openNumber s x) (stored (opened (setupOf x))) s
 
 -- 1 "state length wrong"; 2 "state neither issued nor standing"; of an issued state the number given; else what the auction says
 abbrev pub ofState : List ℕ → ℕ → (Auction → ℕ) → ℕ
@@ -84,17 +79,7 @@ fileNumber s c = ofState s 3 (cardNumber c)
 
 -- "The last valid card in a round stands": the bidder's bit is set, and its slot holds the lines
 unfoldable pub withCard : Auction → ℕ → List Line → Auction
-withCard a b ls = record {
-  phase = a .phase;
-  round = a .round;
-  filed = setIn (a .filed) b 1;
-  terms = a .terms;
-  price = a .price;
-  before = a .before;
-  free = a .free;
-  records = a .records;
-  bids = sets (a .bids) (b * 8) ls;
-}
+withCard a b ls = withCards a (cards (setIn (a .cards .filed) b 1) (sets (a .cards .lines) (b * 8) ls))
 
 abbrev pub bidderOn : Card → ℕ
 bidderOn (card.Bid b r) = b
@@ -117,7 +102,7 @@ countNumber s = ofState s 3 openNumberOf
 
 -- "the number of bidders still to file": the ones of the bitmap, taken from the number of bidders
 abbrev pub toFile : Auction → ℕ
-toFile a = a .terms .bidders - ones (a .filed)
+toFile a = a .terms .bidders - ones (a .cards .filed)
 
 unfoldable pub countCall : List ℕ → Count
 countCall s = cond (eqb (countNumber s) 0) (count.ToFile (toFile (loaded s))) (count.Refused (countNumber s))

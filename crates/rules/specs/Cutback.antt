@@ -2,22 +2,21 @@
 use mathlib.Core.Bool.{Bool, true, _&&_, cond}
 use mathlib.Core.List.{List}
 use Prim.Native.Nat.{ℕ, _+_, _*_, _-_, _/_, _%_}
-use lib.ListN.{getD}
 use lib.Dec.{leb, ltb, eqb}
 use Rattle.rules.specs.declared.Tranches.{Tranches}
-use Rattle.rules.specs.declared.Terms.{Terms}
+use Rattle.rules.specs.declared.Setup.{Setup}
 use Rattle.rules.specs.declared.Auction.{Auction}
 use Rattle.rules.specs.Count.{sumUpTo, allUpTo, listOf}
-use Rattle.rules.specs.Units.{tranches}
 use Rattle.rules.specs.Answers.{stopped}
-use Rattle.rules.specs.Settings.{item, targetOf, capOf, startOf}
+use Rattle.rules.specs.Parts.{tranchesAt, withPhase, withPrices, withLimits, withFree, withRecords}
+use Rattle.rules.specs.Settings.{item, setup, targetOf, capOf, startOf}
 use Rattle.rules.specs.Held.{goingIn, recordAt, setTo, freeOf}
 use Rattle.rules.specs.Bid.{recordOf}
 use Rattle.rules.specs.Round.{opensAt, stops}
 
 -- the revised number of product p
 abbrev pub givenFor : List Tranches → ℕ → ℕ
-givenFor xs p = getD xs p (tranches 0) .0
+givenFor xs p = tranchesAt xs p
 
 -- ---- the conditions of 20
 
@@ -27,9 +26,9 @@ inRoundTwo a = eqb (a .round) 2
 
 -- "and no round 2 card is filed"
 abbrev pub noCardFiled : Auction → Bool
-noCardFiled a = eqb (a .filed) 0
+noCardFiled a = eqb (a .cards .filed) 0
 
-module _ (t : Terms) (targets caps : List Tranches) where
+module _ (t : Setup) (targets caps : List Tranches) where
   -- "none larger than before": than the numbers now in the state
   abbrev pub notLarger : ℕ → Bool
   notLarger p = leb (givenFor targets p) (targetOf t p) && leb (givenFor caps p) (capOf t p)
@@ -52,50 +51,47 @@ module _ (t : Terms) (targets caps : List Tranches) where
 
   abbrev pub numbersFit : ℕ → Bool
   numbersFit p =
-      cond (ltb p (t .products)) (notLarger p && (notZero p && (stillRanked p && capAtMostTarget p))) (unusedZero p)
+      cond (ltb p (t .terms .products)) (notLarger p && (notZero p && (stillRanked p && capAtMostTarget p))) (unusedZero p)
 
   -- "The statewide cap stays, so a new volume below it is refused."
   abbrev pub volumeFits : Bool
-  volumeFits = leb (t .statewide .0) (sumUpTo (givenFor targets) (t .products))
+  volumeFits = leb (t .terms .statewide .0) (sumUpTo (givenFor targets) (t .terms .products))
 
 -- "the manager may give revised targets and product caps": else 20, "any condition on the cutback above not met"
 abbrev pub mayCut : Auction → List Tranches → List Tranches → Bool
 mayCut a targets caps =
     inRoundTwo a
-    && (noCardFiled a && (allUpTo (numbersFit (a .terms) targets caps) 8 && volumeFits (a .terms) targets caps))
+    && (noCardFiled a && (allUpTo (numbersFit (setup a) targets caps) 8 && volumeFits (setup a) targets caps))
 
 -- ---- the cutback
 
 -- the revised targets and caps take the place of the settings' own; every other setting stays
-unfoldable pub revised : Terms → List Tranches → List Tranches → Terms
+unfoldable pub revised : Setup → List Tranches → List Tranches → Setup
 revised t targets caps = record {
-  unit = t .unit;
-  products = t .products;
-  bidders = t .bidders;
-  rows = t .rows;
-  statewide = t .statewide;
+  terms = t .terms;
   item = listOf (λ p. item (givenFor targets p) (givenFor caps p) (startOf t p)) 8;
   eligibility = t .eligibility;
-  row = t .row;
+  decrements = t .decrements;
 }
 
--- "A bidder above a reduced cap is set to the cap, and the difference becomes its free eligibility": it is added to what is free
+-- what the reduced caps take off bidder b
 abbrev pub cutFrom : Auction → List Tranches → ℕ → ℕ
 cutFrom a caps b = sumUpTo (λ p. goingIn (recordOf a b p) - givenFor caps p) (a .terms .products)
 
+-- "the difference becomes its free eligibility": it is added to what is free
+abbrev pub freeCut : Auction → List Tranches → ℕ → ℕ
+freeCut a caps b = freeOf a b + cutFrom a caps b
+
+-- "A bidder above a reduced cap is set to the cap"
+abbrev pub setToCaps : Auction → List Tranches → Auction
+setToCaps a caps =
+    withFree (withRecords a (listOf (λ k. setTo (recordAt (a .records) k) (givenFor caps (k % 8))) 256)) (freeCut a caps)
+
 -- "the reduced book", at the starting prices, and as it is if it stops
 unfoldable pub reduced : Auction → List Tranches → List Tranches → Auction
-reduced a targets caps = record {
-  phase = stopped;
-  round = a .round;
-  filed = a .filed;
-  terms = revised (a .terms) targets caps;
-  price = listOf (startOf (a .terms)) 8;
-  before = listOf (startOf (a .terms)) 8;
-  free = listOf (λ b. tranches (freeOf a b + cutFrom a caps b)) 32;
-  records = listOf (λ k. setTo (recordAt (a .records) k) (givenFor caps (k % 8))) 256;
-  bids = a .bids;
-}
+reduced a targets caps =
+    withPhase (
+    withPrices (withLimits (setToCaps a caps) (givenFor targets) (givenFor caps)) (startOf (setup a)) (startOf (setup a))) stopped
 
 -- "Step 5's stop applies again: the auction is then stopped in round 2, with p = q = starting price"; otherwise "Round 2 prices are
 -- worked out afresh from the starting prices and the reduced book", so that q is the starting price of every product, fallen or not

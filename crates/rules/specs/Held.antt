@@ -10,7 +10,8 @@ use Rattle.rules.specs.declared.Record.{Record}
 use Rattle.rules.specs.declared.Auction.{Auction}
 use Rattle.rules.specs.Count.{sumUpTo}
 use Rattle.rules.specs.Units.{tranches}
-use Rattle.rules.specs.Settings.{targetOf}
+use Rattle.rules.specs.Parts.{seatAt}
+use Rattle.rules.specs.Settings.{setup, targetOf}
 use Rattle.rules.specs.Card.{lot}
 
 -- "g tranches at the going price p, d denied switches at the price q before its latest fall, r retained withdrawals at one exit price"
@@ -99,7 +100,7 @@ aboveZero (pos n) = n
 aboveZero (negsuc n) = 0
 
 abbrev pub standingOf : Auction → ℕ → ℤ
-standingOf a p = standing (held (a .records) (a .terms .bidders) p) (targetOf (a .terms) p)
+standingOf a p = standing (held (a .records) (a .terms .bidders) p) (targetOf (setup a) p)
 
 -- "A product ticked exactly when its standing after the last calculation was above zero; none ticked before round 1":
 -- while bids are open the records are those of the last calculation, and before round 1 nothing is held; after a cutback it "goes by
@@ -108,7 +109,7 @@ abbrev pub ticked : Auction → ℕ → Bool
 ticked a p = above (standingOf a p)
 
 abbrev pub freeOf : Auction → ℕ → ℕ
-freeOf a b = getD (a .free) b (tranches 0) .0
+freeOf a b = seatAt a b .free .0
 
 -- "A bidder's eligibility is the sum of g + d, plus f"
 abbrev pub eligibility : Auction → ℕ → ℕ

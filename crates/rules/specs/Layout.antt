@@ -8,13 +8,16 @@ pub use Rattle.layout.specs.Sections.{headWidth, productWidth, bidderWidth, row
 use Rattle.rules.specs.declared.Line.{Line}
 use Rattle.rules.specs.declared.Record.{Record}
 use Rattle.rules.specs.declared.Terms.{Terms}
+use Rattle.rules.specs.declared.Lane.{Lane}
+use Rattle.rules.specs.declared.Seat.{Seat}
+use Rattle.rules.specs.declared.Row.{Row}
 use Rattle.rules.specs.declared.Auction.{Auction}
 use Rattle.rules.specs.Count.{allUpTo, listOf}
 use Rattle.rules.specs.Units.{tranches}
 use Rattle.rules.specs.Card.{line, noLine}
-use Rattle.rules.specs.Settings.{item, row, targetOf, capOf, startOf, initialOf, percentOf, decrementOf}
-use Rattle.rules.specs.Held.{entry, goingIn, deniedIn, retainedIn, exitIn, recordAt, freeOf}
-use Rattle.rules.specs.Bid.{bidIn, withdrawnIn, exitOn, priceAt, beforeAt}
+use Rattle.rules.specs.Parts.{lane, laneAt, seat, seatAt, row, noRow, table, cards, auction}
+use Rattle.rules.specs.Held.{entry, goingIn, deniedIn, retainedIn, exitIn, recordAt}
+use Rattle.rules.specs.Bid.{bidIn, withdrawnIn, exitOn}
 
 -- ---- to bytes
 
@@ -39,21 +42,19 @@ bytesUpTo part (suc n) = bytesUpTo part n ++ part n
 abbrev pub headBytes : Auction → List ℕ
 headBytes a =
     byte1 (a .phase) ++ byte1 (a .terms .unit) ++ byte1 (a .terms .products) ++ byte1 (a .terms .bidders)
-    ++ byte1 (a .terms .rows) ++ bytes2 (a .round) ++ bytes2 (a .terms .statewide .0) ++ bytes4 (a .filed)
+    ++ byte1 (a .decrements .rows) ++ bytes2 (a .round) ++ bytes2 (a .terms .statewide .0) ++ bytes4 (a .cards .filed)
 
 -- target, cap; starting price 3, p 3, q 3
-abbrev pub productBytes : Auction → ℕ → List ℕ
-productBytes a p =
-    byte1 (targetOf (a .terms) p) ++ byte1 (capOf (a .terms) p) ++ bytes3 (startOf (a .terms) p) ++ bytes3 (priceAt a p)
-    ++ bytes3 (beforeAt a p)
+abbrev pub laneBytes : Lane → List ℕ
+laneBytes l = byte1 (l .target .0) ++ byte1 (l .cap .0) ++ bytes3 (l .start) ++ bytes3 (l .price) ++ bytes3 (l .before)
 
 -- initial eligibility 2, f 2
-abbrev pub bidderBytes : Auction → ℕ → List ℕ
-bidderBytes a b = bytes2 (initialOf (a .terms) b) ++ bytes2 (freeOf a b)
+abbrev pub seatBytes : Seat → List ℕ
+seatBytes s = bytes2 (s .initial .0) ++ bytes2 (s .free .0)
 
 -- percentage 2, decrement 2
-abbrev pub rowBytes : Auction → ℕ → List ℕ
-rowBytes a i = bytes2 (percentOf (a .terms) i) ++ bytes2 (decrementOf (a .terms) i)
+abbrev pub rowBytes : Row → List ℕ
+rowBytes r = bytes2 (r .percent) ++ bytes2 (r .decrement .0)
 
 -- g, d, r; exit price 3
 abbrev pub recordBytes : Record → List ℕ
@@ -65,9 +66,10 @@ lineBytes l = byte1 (bidIn l) ++ byte1 (withdrawnIn l) ++ bytes3 (exitOn l) ++ b
 
 unfoldable pub stored : Auction → List ℕ
 stored a =
-    headBytes a ++ bytesUpTo (productBytes a) 8 ++ bytesUpTo (bidderBytes a) 32 ++ bytesUpTo (rowBytes a) 8
+    headBytes a ++ bytesUpTo (λ p. laneBytes (laneAt a p)) 8 ++ bytesUpTo (λ b. seatBytes (seatAt a b)) 32
+    ++ bytesUpTo (λ i. rowBytes (getD (a .decrements .row) i noRow)) 8
     ++ bytesUpTo (λ k. recordBytes (recordAt (a .records) k)) 256
-    ++ bytesUpTo (λ k. lineBytes (getD (a .bids) k noLine)) 256
+    ++ bytesUpTo (λ k. lineBytes (getD (a .cards .lines) k noLine)) 256
 
 -- ---- and back
 
@@ -83,38 +85,32 @@ read3 s k = getD s k 0 * 65536 + getD s (k + 1) 0 * 256 + getD s (k + 2) 0
 abbrev pub read4 : List ℕ → ℕ → ℕ
 read4 s k = getD s k 0 * 16777216 + getD s (k + 1) 0 * 65536 + getD s (k + 2) 0 * 256 + getD s (k + 3) 0
 
+abbrev pub termsFrom : List ℕ → Terms
+termsFrom s = record { unit = read1 s 1; products = read1 s 2; bidders = read1 s 3; statewide = tranches (read2 s 7) }
+
+abbrev pub laneFrom : List ℕ → ℕ → Lane
+laneFrom s k = lane (read1 s k) (read1 s (k + 1)) (read3 s (k + 2)) (read3 s (k + 5)) (read3 s (k + 8))
+
+abbrev pub seatFrom : List ℕ → ℕ → Seat
+seatFrom s k = seat (read2 s k) (read2 s (k + 2))
+
+abbrev pub rowFrom : List ℕ → ℕ → Row
+rowFrom s k = row (read2 s k) (read2 s (k + 2))
+
 abbrev pub recordFrom : List ℕ → ℕ → Record
 recordFrom s k = entry (read1 s k) (read1 s (k + 1)) (read1 s (k + 2)) (read3 s (k + 3))
 
 abbrev pub lineFrom : List ℕ → ℕ → Line
 lineFrom s k = line (read1 s k) (read1 s (k + 1)) (read3 s (k + 2)) (read1 s (k + 5))
 
-unfoldable pub termsFrom : List ℕ → Terms
-termsFrom s = record {
-  unit = read1 s 1;
-  products = read1 s 2;
-  bidders = read1 s 3;
-  rows = read1 s 4;
-  statewide = tranches (read2 s 7);
-  item = listOf (λ p.
-      item (read1 s (p * productWidth + productsFrom)) (read1 s (p * productWidth + (productsFrom + 1)))
-      (read3 s (p * productWidth + (productsFrom + 2)))) 8;
-  eligibility = listOf (λ b. tranches (read2 s (b * bidderWidth + biddersFrom))) 32;
-  row = listOf (λ i. row (read2 s (i * rowWidth + rowsFrom)) (read2 s (i * rowWidth + (rowsFrom + 2)))) 8;
-}
-
 unfoldable pub loaded : List ℕ → Auction
-loaded s = record {
-  phase = read1 s 0;
-  round = read2 s 5;
-  filed = read4 s 9;
-  terms = termsFrom s;
-  price = listOf (λ p. read3 s (p * productWidth + (productsFrom + 5))) 8;
-  before = listOf (λ p. read3 s (p * productWidth + (productsFrom + 8))) 8;
-  free = listOf (λ b. tranches (read2 s (b * bidderWidth + (biddersFrom + 2)))) 32;
-  records = listOf (λ k. recordFrom s (k * recordWidth + recordsFrom)) 256;
-  bids = listOf (λ k. lineFrom s (k * lineWidth + bidsFrom)) 256;
-}
+loaded s =
+    auction (read1 s 0) (read2 s 5) (termsFrom s)
+    (listOf (λ p. laneFrom s (p * productWidth + productsFrom)) 8)
+    (listOf (λ b. seatFrom s (b * bidderWidth + biddersFrom)) 32)
+    (table (read1 s 4) (listOf (λ i. rowFrom s (i * rowWidth + rowsFrom)) 8))
+    (listOf (λ k. recordFrom s (k * recordWidth + recordsFrom)) 256)
+    (cards (read4 s 9) (listOf (λ k. lineFrom s (k * lineWidth + bidsFrom)) 256))
 
 -- "all zero as issued"
 abbrev pub allZero : List ℕ → Bool

@@ -1,6 +1,7 @@
 pub mod Count
 pub mod Units
 pub mod Answers
+pub mod Parts
 pub mod Settings
 pub mod Layout
 pub mod Bits

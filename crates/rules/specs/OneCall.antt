@@ -11,7 +11,7 @@ use Rattle.rules.specs.declared.Settings.{Settings}
 use Rattle.rules.specs.declared.Auction.{Auction}
 use Rattle.rules.specs.Count.{sumUpTo}
 use Rattle.rules.specs.Answers.{answerOf, calculationSaid, bidsOpen, stopped}
-use Rattle.rules.specs.Settings.{targetOf, startOf}
+use Rattle.rules.specs.Settings.{setup, targetOf, startOf}
 use Rattle.rules.specs.Held.{goingIn, deniedIn, retainedIn, exitIn, held, freeOf, eligibility, excess}
 use Rattle.rules.specs.Bid.{hasFiled, slotOf, recordOf, priceAt, beforeAt}
 use Rattle.rules.specs.Cutback.{givenFor, revised}
@@ -23,13 +23,13 @@ use Rattle.rules.specs.Calls.{openCall, fileCall, calculateCall, cutback
 pub record StandsIn (s : List ℕ) : Type 0 where
   pub long : length s ≡ stateLength
   pub standing : stands (loaded s) ≡ true
-  pub bits : loaded s .filed < 4294967296
+  pub bits : loaded s .cards .filed < 4294967296
 
 -- what is past the counts in use, and the slots not filed: every byte of it is 0
 pub record SpareZero (s : List ℕ) : Type 0 where
   pub products : (p j : ℕ) → loaded s .terms .products ≤ p → p < 8 → j < productWidth → getD s (p * productWidth + productsFrom + j) 0 ≡ 0
   pub bidders : (b j : ℕ) → loaded s .terms .bidders ≤ b → b < 32 → j < bidderWidth → getD s (b * bidderWidth + biddersFrom + j) 0 ≡ 0
-  pub rows : (i j : ℕ) → loaded s .terms .rows ≤ i → i < 8 → j < rowWidth → getD s (i * rowWidth + rowsFrom + j) 0 ≡ 0
+  pub rows : (i j : ℕ) → loaded s .decrements .rows ≤ i → i < 8 → j < rowWidth → getD s (i * rowWidth + rowsFrom + j) 0 ≡ 0
   pub records : (k j : ℕ) → k < 256 → (loaded s .terms .bidders ≤ k / 8) ⊎ (loaded s .terms .products ≤ k % 8) → j < recordWidth
       → getD s (k * recordWidth + recordsFrom + j) 0 ≡ 0
   pub lines : (k j : ℕ) → k < 256 → (hasFiled (loaded s) (k / 8) ≡ false) ⊎ (loaded s .terms .products ≤ k % 8) → j < lineWidth
@@ -56,19 +56,18 @@ pub record FiledOnly (a z : Auction) (b : ℕ) (ls : List Line) : Type 0 where
 pub record PriceAfter (a z : Auction) (p : ℕ) : Type 0 where
   pub some : 1 ≤ priceAt z p
   pub no-rise : priceAt z p ≤ priceAt a p
-  pub fell : isOpen z ≡ true → targetOf (a .terms) p < held (z .records) (a .terms .bidders) p
+  pub fell : isOpen z ≡ true → targetOf (setup a) p < held (z .records) (a .terms .bidders) p
       → (priceAt z p < priceAt a p) × (beforeAt z p ≡ priceAt a p)
-  pub stayed : isOpen z ≡ true → held (z .records) (a .terms .bidders) p ≤ targetOf (a .terms) p
+  pub stayed : isOpen z ≡ true → held (z .records) (a .terms .bidders) p ≤ targetOf (setup a) p
       → (priceAt z p ≡ priceAt a p) × (beforeAt z p ≡ beforeAt a p)
   pub ended : isOpen z ≡ false → (priceAt z p ≡ priceAt a p) × (beforeAt z p ≡ beforeAt a p)
 
 -- what a cutback to these targets and caps makes of the auction a: nothing changes but targets, caps, g, f, p, q, and the phase where it
 -- stops; it never closes
 pub record CutOnly (a z : Auction) (targets caps : List Tranches) : Type 0 where
-  pub terms : z .terms ≡ revised (a .terms) targets caps
+  pub settings : setup z ≡ revised (setup a) targets caps
   pub round : z .round ≡ a .round
-  pub filed : z .filed ≡ a .filed
-  pub bids : z .bids ≡ a .bids
+  pub cards : z .cards ≡ a .cards
   pub phase : (z .phase ≡ bidsOpen) ⊎ (z .phase ≡ stopped)
   pub going : (b p : ℕ) → b < 32 → p < 8 → goingIn (recordOf z b p) ≡ min (goingIn (recordOf a b p)) (givenFor caps p)
   pub denied : (b p : ℕ) → b < 32 → p < 8 → deniedIn (recordOf z b p) ≡ deniedIn (recordOf a b p)
@@ -83,8 +82,8 @@ pub record CutOnly (a z : Auction) (targets caps : List Tranches) : Type 0 where
 
 -- the prices of product p after it, from the starting price: q is that price on every product, fallen or not
 pub record CutPrice (a z : Auction) (p : ℕ) : Type 0 where
-  pub before : beforeAt z p ≡ startOf (a .terms) p
-  pub fell : isOpen z ≡ true → targetOf (z .terms) p < held (z .records) (a .terms .bidders) p
-      → (1 ≤ priceAt z p) × (priceAt z p < startOf (a .terms) p)
-  pub stayed : isOpen z ≡ true → held (z .records) (a .terms .bidders) p ≤ targetOf (z .terms) p → priceAt z p ≡ startOf (a .terms) p
-  pub ended : isOpen z ≡ false → priceAt z p ≡ startOf (a .terms) p
+  pub before : beforeAt z p ≡ startOf (setup a) p
+  pub fell : isOpen z ≡ true → targetOf (setup z) p < held (z .records) (a .terms .bidders) p
+      → (1 ≤ priceAt z p) × (priceAt z p < startOf (setup a) p)
+  pub stayed : isOpen z ≡ true → held (z .records) (a .terms .bidders) p ≤ targetOf (setup z) p → priceAt z p ≡ startOf (setup a) p
+  pub ended : isOpen z ≡ false → priceAt z p ≡ startOf (setup a) p

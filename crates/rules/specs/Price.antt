@@ -4,19 +4,19 @@ use Prim.Native.Nat.{ℕ, zero, suc, _+_, _*_, _-_, _/_, max}
 use lib.Dec.{leb}
 use lib.IntN.{ℤ}
 use Rattle.rules.specs.declared.Price.{Price}
-use Rattle.rules.specs.declared.Terms.{Terms}
+use Rattle.rules.specs.declared.Decrements.{Decrements}
 use Rattle.rules.specs.Units.{unitOf, amountOf, priceOf}
 use Rattle.rules.specs.Settings.{percentOf, decrementOf}
 use Rattle.rules.specs.Held.{above, aboveZero}
 
 -- "its decrement is that of the last row not above it": of the first n rows
-abbrev pub decrementUpTo : Terms → ℕ → ℕ → ℕ
-decrementUpTo t pct zero = 0
-decrementUpTo t pct (suc n) = cond (leb (percentOf t n) pct) (decrementOf t n) (decrementUpTo t pct n)
+abbrev pub decrementUpTo : Decrements → ℕ → ℕ → ℕ
+decrementUpTo d pct zero = 0
+decrementUpTo d pct (suc n) = cond (leb (percentOf d n) pct) (decrementOf d n) (decrementUpTo d pct n)
 
 -- "percentage = 100 x standing / target, rounded down"
-abbrev pub decrementFor : Terms → ℕ → ℕ → ℕ
-decrementFor t over target = decrementUpTo t (100 * over / target) (t .rows)
+abbrev pub decrementFor : Decrements → ℕ → ℕ → ℕ
+decrementFor d over target = decrementUpTo d (100 * over / target) (d .rows)
 
 -- "the cut is p x decrement / 10,000, rounded half up, at least 1"
 abbrev pub cutOf : ℕ → ℕ → ℕ
@@ -30,8 +30,8 @@ abbrev pub priceFallen : Price → ℕ → Price
 priceFallen x decrement = priceOf (unitOf x) (fallen (amountOf x) decrement)
 
 -- "Next price of a product above target"; "Other prices stay."
-abbrev pub nextPrice : Terms → ℤ → ℕ → ℕ → ℕ
-nextPrice t z target p = cond (above z) (fallen p (decrementFor t (aboveZero z) target)) p
+abbrev pub nextPrice : Decrements → ℤ → ℕ → ℕ → ℕ
+nextPrice d z target p = cond (above z) (fallen p (decrementFor d (aboveZero z) target)) p
 
 -- q, "the price .. before its latest fall"
 abbrev pub nextBefore : ℤ → ℕ → ℕ → ℕ

@@ -12,8 +12,8 @@ use Rattle.rules.specs.declared.Calculated.{Calculated}
 use Rattle.rules.specs.Count.{allUpTo, firstUpTo, isAt, listOf}
 use Rattle.rules.specs.Units.{tranches}
 use Rattle.rules.specs.Answers.{bidsOpen, closed, stopped}
-use Rattle.rules.specs.Settings.{targetOf}
-use Rattle.rules.specs.Card.{noLine}
+use Rattle.rules.specs.Parts.{tranchesAt, noCards, withPhase, withRound, withPrices, withFree, withRecords, withCards}
+use Rattle.rules.specs.Settings.{setup, targetOf}
 use Rattle.rules.specs.Held.{standingOf, ticked, excess, above}
 use Rattle.rules.specs.Bid.{priceAt, beforeAt}
 use Rattle.rules.specs.Accept.{placeAt, acceptedAll}
@@ -36,43 +36,34 @@ drawFits n order =
 
 abbrev pub afterStep2 : Auction → List ℕ → Kept
 afterStep2 a order =
-    keptAll (a .terms .products) (a .terms .bidders) (targetOf (a .terms)) (ticked a) (drawn order) (acceptedAll a)
+    keptAll (a .terms .products) (a .terms .bidders) (targetOf (setup a)) (ticked a) (drawn order) (acceptedAll a)
 
 -- "Free eligibility not used lapses": f begins again at 0
 abbrev pub afterStep4 : Auction → List ℕ → List Place → Outbid
 afterStep4 a order ps =
-    outbidAll (a .terms .products) (a .terms .bidders) (targetOf (a .terms)) (ticked a) (drawn order)
+    outbidAll (a .terms .products) (a .terms .bidders) (targetOf (setup a)) (ticked a) (drawn order)
     (deemedUpTo (ticked a) ps (a .terms .bidders * 8)) (replicate 32 (tranches 0))
 
 -- ---- step 5
 
--- the book after step 4, at the same round and prices; no cards are left
-abbrev pub atRest : ℕ → Auction → Outbid → Auction
-atRest phase a o = record {
-  phase = phase;
-  round = a .round;
-  filed = 0;
-  terms = a .terms;
-  price = a .price;
-  before = a .before;
-  free = o .free;
-  records = listOf (λ k. placeAt (o .places) k .holds) 256;
-  bids = replicate 256 noLine;
-}
+-- the book after step 4
+abbrev pub booked : Auction → Outbid → Auction
+booked a o = withFree (withRecords a (listOf (λ k. placeAt (o .places) k .holds) 256)) (tranchesAt (o .free))
 
--- a round opens at the prices that are worked out from the going prices and the book
+-- at the same round and prices; no cards are left
+abbrev pub atRest : ℕ → Auction → Outbid → Auction
+atRest phase a o = withPhase (withCards (booked a o) noCards) phase
+
+-- p and q, worked out from the going prices and the book
+abbrev pub priceNext : Auction → ℕ → ℕ
+priceNext a p = nextPrice (a .decrements) (standingOf a p) (targetOf (setup a) p) (priceAt a p)
+
+abbrev pub beforeNext : Auction → ℕ → ℕ
+beforeNext a p = nextBefore (standingOf a p) (priceAt a p) (beforeAt a p)
+
+-- a round opens at such prices
 abbrev pub opensAt : ℕ → Auction → Auction
-opensAt round a = record {
-  phase = bidsOpen;
-  round = round;
-  filed = a .filed;
-  terms = a .terms;
-  price = listOf (λ p. nextPrice (a .terms) (standingOf a p) (targetOf (a .terms) p) (priceAt a p)) 8;
-  before = listOf (λ p. nextBefore (standingOf a p) (priceAt a p) (beforeAt a p)) 8;
-  free = a .free;
-  records = a .records;
-  bids = a .bids;
-}
+opensAt round a = withPhase (withRound (withPrices a (priceNext a) (beforeNext a)) round) bidsOpen
 
 -- "prices fall and the next round opens"
 abbrev pub onward : Auction → Auction

@@ -8,7 +8,7 @@ use Rattle.rules.specs.declared.Record.{Record}
 use Rattle.rules.specs.declared.Auction.{Auction}
 use Rattle.rules.specs.Count.{sumUpTo, allUpTo}
 use Rattle.rules.specs.Answers.{bidsOpen, closed, stopped}
-use Rattle.rules.specs.Settings.{between, withinLimits, targetOf, capOf, startOf, initialOf}
+use Rattle.rules.specs.Settings.{between, setup, withinLimits, targetOf, capOf, startOf, initialOf}
 use Rattle.rules.specs.Card.{lineZero}
 use Rattle.rules.specs.Held.{goingIn, deniedIn, retainedIn, exitIn, heldIn, keptIn, recordAt, held, ticked, freeOf, excess}
 use Rattle.rules.specs.Bid.{recordOf, priceAt, beforeAt, onProduct, judged, hasFiled, slotOf}
@@ -31,10 +31,10 @@ productStands a p =
     cond (ltb p (a .terms .products))
     (leb 1 (priceAt a p)
     && (leb (priceAt a p) (beforeAt a p)
-    && (leb (beforeAt a p) (startOf (a .terms) p)
+    && (leb (beforeAt a p) (startOf (setup a) p)
     && (implies (isOpen a && ticked a p) (ltb (priceAt a p) (beforeAt a p))
     && implies (ltb 0 (keptOn a p))
-    (ltb (priceAt a p) (beforeAt a p) && eqb (held (a .records) (a .terms .bidders) p) (targetOf (a .terms) p))))))
+    (ltb (priceAt a p) (beforeAt a p) && eqb (held (a .records) (a .terms .bidders) p) (targetOf (setup a) p))))))
     (eqb (priceAt a p) 0 && eqb (beforeAt a p) 0)
 
 abbrev pub recordZero : Record → Bool
@@ -49,14 +49,14 @@ recordWithin p q cap r =
 abbrev pub recordStands : Auction → ℕ → Bool
 recordStands a k =
     cond (ltb (k / 8) (a .terms .bidders) && ltb (k % 8) (a .terms .products))
-    (recordWithin (priceAt a (k % 8)) (beforeAt a (k % 8)) (capOf (a .terms) (k % 8)) (recordAt (a .records) k))
+    (recordWithin (priceAt a (k % 8)) (beforeAt a (k % 8)) (capOf (setup a) (k % 8)) (recordAt (a .records) k))
     (recordZero (recordAt (a .records) k))
 
 -- "and, with f, within initial eligibility"; past the bidders in use f is 0
 abbrev pub bidderStands : Auction → ℕ → Bool
 bidderStands a b =
     cond (ltb b (a .terms .bidders))
-    (leb (sumUpTo (λ p. heldIn (recordOf a b p)) (a .terms .products) + freeOf a b) (initialOf (a .terms) b))
+    (leb (sumUpTo (λ p. heldIn (recordOf a b p)) (a .terms .products) + freeOf a b) (initialOf (setup a) b))
     (eqb (freeOf a b) 0)
 
 -- the lines from the n-th on are 0
@@ -76,8 +76,8 @@ slotStands a b =
 abbrev pub asOpened : Auction → Bool
 asOpened a =
     allUpTo (λ k. recordZero (recordAt (a .records) k)) 256
-    && (allUpTo (λ b. eqb (freeOf a b) (initialOf (a .terms) b)) 32
-    && allUpTo (λ p. eqb (priceAt a p) (startOf (a .terms) p) && eqb (beforeAt a p) (startOf (a .terms) p)) 8)
+    && (allUpTo (λ b. eqb (freeOf a b) (initialOf (setup a) b)) 32
+    && allUpTo (λ p. eqb (priceAt a p) (startOf (setup a) p) && eqb (beforeAt a p) (startOf (setup a) p)) 8)
 
 -- "In an open round 2 nothing is kept, which standing requires."
 abbrev pub nothingKept : Auction → Bool
@@ -91,7 +91,7 @@ openStands a =
 -- "closed and stopped states meet step 5 and hold no cards"
 abbrev pub endStands : Auction → Bool
 endStands a =
-    eqb (a .filed) 0
+    eqb (a .cards .filed) 0
     && cond (eqb (a .phase) closed) (eqb (excess a) 0) (eqb (a .phase) stopped && (ltb 0 (excess a) && stops a))
 
 abbrev pub phaseStands : Auction → Bool
@@ -101,7 +101,7 @@ phaseStands a = cond (isOpen a) (openStands a) (endStands a)
 -- filed and the bitmap's unused bits are all that is spare
 unfoldable pub stands : Auction → Bool
 stands a =
-    withinLimits (a .terms)
+    withinLimits (setup a)
     && (between 1 (a .round) 4095
     && (allUpTo (productStands a) 8
     && (allUpTo (recordStands a) 256

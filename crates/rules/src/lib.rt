@@ -370,38 +370,69 @@ impl Record {
     }
 }
 
-// ---- The whole state
+// ---- The whole state, in the order and grouping of its bytes
 
-// One product's settings, amounts in the auction's one unit.
+// What an auction has one of: amounts are in its one unit.
+pub struct Terms {
+    pub unit: u8,
+    pub products: u8,
+    pub bidders: u8,
+    pub statewide: Tranches,
+}
+
+// One product: its settings, the going price p and the price q before its latest fall.
+pub struct Lane {
+    pub target: Tranches,
+    pub cap: Tranches,
+    pub start: u32,
+    pub price: u32,
+    pub before: u32,
+}
+
+// One bidder: its initial eligibility, and f.
+pub struct Seat {
+    pub initial: Tranches,
+    pub free: Tranches,
+}
+
+// A decrement table: the rows in use, and the rows.
+pub struct Decrements {
+    pub rows: u8,
+    pub row: [Row; 8],
+}
+
+// Who has filed, and the lines filed.
+pub struct Cards {
+    pub filed: u32,
+    pub lines: [Line; 256],
+}
+
+// A record or a line of bidder b on product p stands at b * 8 + p.
+pub struct Auction {
+    pub phase: u8,
+    pub round: u16,
+    pub terms: Terms,
+    pub lanes: [Lane; 8],
+    pub seats: [Seat; 32],
+    pub decrements: Decrements,
+    pub records: [Record; 256],
+    pub cards: Cards,
+}
+
+// ---- The settings in the state, as a value
+
+// One product's settings.
 pub struct Item {
     pub target: Tranches,
     pub cap: Tranches,
     pub start: u32,
 }
 
-// The settings as they stand in the state.
-pub struct Terms {
-    pub unit: u8,
-    pub products: u8,
-    pub bidders: u8,
-    pub rows: u8,
-    pub statewide: Tranches,
+pub struct Setup {
+    pub terms: Terms,
     pub item: [Item; 8],
     pub eligibility: [Tranches; 32],
-    pub row: [Row; 8],
-}
-
-// Bidder b on product p stands at b * 8 + p.
-pub struct Auction {
-    pub phase: u8,
-    pub round: u16,
-    pub filed: u32,
-    pub terms: Terms,
-    pub price: [u32; 8],
-    pub before: [u32; 8],
-    pub free: [Tranches; 32],
-    pub records: [Record; 256],
-    pub bids: [Line; 256],
+    pub decrements: Decrements,
 }
 
 pub enum Phase {

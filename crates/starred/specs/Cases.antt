@@ -7,7 +7,7 @@ use lib.ListN.{getD, replicate}
 use Rattle.rules.specs.declared.Line.{Line}
 use Rattle.rules.specs.declared.Record.{Record}
 use Rattle.rules.specs.declared.Item.{Item}
-use Rattle.rules.specs.declared.Terms.{Terms}
+use Rattle.rules.specs.declared.Setup.{Setup}
 use Rattle.rules.specs.declared.Auction.{Auction}
 use Rattle.rules.specs.declared.Calculated.{Calculated}
 use Rattle.rules.specs.Count.{allUpTo, from, listOf}
@@ -15,7 +15,8 @@ use Rattle.rules.specs.Units.{tranches, amountOf, quote}
 use Rattle.rules.specs.Answers.{bidsOpen, closed}
 use Rattle.rules.specs.Bits.{setIn}
 use Rattle.rules.specs.Card.{line, noLine}
-use Rattle.rules.specs.Settings.{item, noItem, row, noRow}
+use Rattle.rules.specs.Parts.{lane, noLane, seat, noSeat, row, noRow, table, noCards, auction}
+use Rattle.rules.specs.Settings.{item, noItem, targetOf, capOf, startOf}
 use Rattle.rules.specs.Held.{entry, nothing, held, excess}
 use Rattle.rules.specs.Bid.{judged}
 use Rattle.rules.specs.Keep.{keepLoop}
@@ -29,34 +30,24 @@ use Rattle.rules.specs.Calls.{opened, withCard}
 -- ---- how a row is written
 
 -- two products and three bidders: the products with their target, cap and starting price, and the statewide cap
-abbrev pub terms : Item → Item → ℕ → Terms
-terms x y all = record {
-  unit = 0;
-  products = 2;
-  bidders = 3;
-  rows = 2;
-  statewide = tranches all;
+abbrev pub settings : Item → Item → ℕ → Setup
+settings x y all = record {
+  terms = record { unit = 0; products = 2; bidders = 3; statewide = tranches all };
   item = x ∷ y ∷ replicate 6 noItem;
   eligibility = tranches 3 ∷ tranches 3 ∷ tranches 3 ∷ replicate 29 (tranches 0);
-  row = row 0 100 ∷ row 50 300 ∷ replicate 6 noRow;
+  decrements = table 2 (row 0 100 ∷ row 50 300 ∷ replicate 6 noRow);
 }
 
 abbrev pub book : Record → Record → Record → Record → Record → Record → List Record
 book a b c d e f = a ∷ b ∷ replicate 6 nothing ++ c ∷ d ∷ replicate 6 nothing ++ e ∷ f ∷ replicate 238 nothing
 
 -- phase and round; going prices; prices before their latest fall; records; the first bidder's free eligibility
-abbrev pub state : Terms → ℕ → ℕ → ℕ → ℕ → ℕ → ℕ → List Record → ℕ → Auction
-state t phase round p₀ p₁ q₀ q₁ rs f = record {
-  phase = phase;
-  round = round;
-  filed = 0;
-  terms = t;
-  price = p₀ ∷ p₁ ∷ replicate 6 0;
-  before = q₀ ∷ q₁ ∷ replicate 6 0;
-  free = tranches f ∷ replicate 31 (tranches 0);
-  records = rs;
-  bids = replicate 256 noLine;
-}
+abbrev pub state : Setup → ℕ → ℕ → ℕ → ℕ → ℕ → ℕ → List Record → ℕ → Auction
+state t phase round p₀ p₁ q₀ q₁ rs f =
+    auction phase round (t .terms)
+    (lane (targetOf t 0) (capOf t 0) (startOf t 0) p₀ q₀ ∷ lane (targetOf t 1) (capOf t 1) (startOf t 1) p₁ q₁ ∷ replicate 6 noLane)
+    (seat 3 f ∷ seat 3 0 ∷ seat 3 0 ∷ replicate 29 noSeat)
+    (t .decrements) rs noCards
 
 -- tranches at the going price, and nothing withdrawn or switched
 abbrev pub g : ℕ → Record
@@ -112,11 +103,11 @@ All (c ∷ cs) = Holds c × All cs
 
 -- ---- the states that the rows go through
 
-abbrev pub S : Terms
-S = terms (item 3 3 1000) (item 2 2 800) 5
+abbrev pub S : Setup
+S = settings (item 3 3 1000) (item 2 2 800) 5
 
-abbrev pub T : Terms
-T = terms (item 2 2 1000) (item 2 2 1000) 4
+abbrev pub T : Setup
+T = settings (item 2 2 1000) (item 2 2 1000) 4
 
 abbrev pub s1 : Auction
 s1 = state S bidsOpen 2 970 800 1000 800 (book (g 2) (g 0) (g 2) (g 1) (g 1) (g 1)) 0

@@ -5,7 +5,7 @@ use mathlib.Core.List.{List, [], _∷_}
 use Prim.Native.Nat.{ℕ}
 use lib.ListN.{replicate}
 use Rattle.rules.specs.declared.Tranches.{Tranches}
-use Rattle.rules.specs.declared.Terms.{Terms}
+use Rattle.rules.specs.declared.Setup.{Setup}
 use Rattle.rules.specs.declared.Auction.{Auction}
 use Rattle.rules.specs.Count.{allUpTo, from}
 use Rattle.rules.specs.Units.{tranches}
@@ -21,7 +21,7 @@ use Rattle.rules.specs.Round.{calculated}
 use Rattle.rules.specs.Cutback.{mayCut, revised, reduced, cutBack, suggestedVolume, suggestedNumber}
 use Rattle.rules.specs.Standing.{stands}
 use Rattle.rules.specs.Calls.{opened, withCard}
-use Rattle.starred.specs.Cases.{Case, Holds, terms, book, state, g, b, card, draw}
+use Rattle.starred.specs.Cases.{Case, Holds, settings, book, state, g, b, card, draw}
 use Rattle.starred.specs.Cases.Case.{round}
 
 -- ---- how a row is written
@@ -62,43 +62,43 @@ AllStated (c ∷ cs) = Stated c × AllStated cs
 -- ---- the states that the rows go through
 
 -- setting S with room for a cutback: the statewide cap is 3
-abbrev U : Terms
-U = terms (item 3 3 1000) (item 2 2 800) 3
+abbrev U : Setup
+U = settings (item 3 3 1000) (item 2 2 800) 3
 
 abbrev u1 : Auction
 u1 = state U bidsOpen 2 970 800 1000 800 (book (g 3) (g 0) (g 1) (g 1) (g 1) (g 1)) 0
 
 -- cut to 2 and 1 with the caps of the targets, and again to caps of 1
 abbrev u2 : Auction
-u2 = state (terms (item 2 2 1000) (item 1 1 800) 3) bidsOpen 2 970 776 1000 800 (book (g 2) (g 0) (g 1) (g 1) (g 1) (g 1)) 1
+u2 = state (settings (item 2 2 1000) (item 1 1 800) 3) bidsOpen 2 970 776 1000 800 (book (g 2) (g 0) (g 1) (g 1) (g 1) (g 1)) 1
 
 abbrev u3 : Auction
-u3 = state (terms (item 2 1 1000) (item 1 1 800) 3) bidsOpen 2 970 776 1000 800 (book (g 1) (g 0) (g 1) (g 1) (g 1) (g 1)) 2
+u3 = state (settings (item 2 1 1000) (item 1 1 800) 3) bidsOpen 2 970 776 1000 800 (book (g 1) (g 0) (g 1) (g 1) (g 1) (g 1)) 2
 
 -- the targets cut alone: no cap takes effect
 abbrev u4 : Auction
-u4 = state (terms (item 3 3 1000) (item 1 1 800) 3) bidsOpen 2 970 776 1000 800 (book (g 3) (g 0) (g 1) (g 1) (g 1) (g 1)) 0
+u4 = state (settings (item 3 3 1000) (item 1 1 800) 3) bidsOpen 2 970 776 1000 800 (book (g 3) (g 0) (g 1) (g 1) (g 1) (g 1)) 0
 
 -- a product just above its target, and the cap that takes the excess away
 abbrev v1 : Auction
 v1 = state U bidsOpen 2 990 800 1000 800 (book (g 3) (g 0) (g 1) (g 1) (g 0) (g 1)) 0
 
 abbrev v2 : Auction
-v2 = state (terms (item 3 2 1000) (item 2 2 800) 3) bidsOpen 2 1000 800 1000 800 (book (g 2) (g 0) (g 1) (g 1) (g 0) (g 1)) 1
+v2 = state (settings (item 3 2 1000) (item 2 2 800) 3) bidsOpen 2 1000 800 1000 800 (book (g 2) (g 0) (g 1) (g 1) (g 0) (g 1)) 1
 
 -- the second product starts at 1
 abbrev w1 : Auction
-w1 = state (terms (item 3 3 1000) (item 2 2 1) 3) bidsOpen 2 970 1 1000 1 (book (g 3) (g 0) (g 1) (g 1) (g 1) (g 1)) 0
+w1 = state (settings (item 3 3 1000) (item 2 2 1) 3) bidsOpen 2 970 1 1000 1 (book (g 3) (g 0) (g 1) (g 1) (g 1) (g 1)) 0
 
 abbrev w2 : Auction
-w2 = state (terms (item 2 2 1000) (item 1 1 1) 3) stopped 2 1000 1 1000 1 (book (g 2) (g 0) (g 1) (g 1) (g 1) (g 1)) 1
+w2 = state (settings (item 2 2 1000) (item 1 1 1) 3) stopped 2 1000 1 1000 1 (book (g 2) (g 0) (g 1) (g 1) (g 1) (g 1)) 1
 
 -- setting T with a statewide cap of 3: only the first product ticks
 abbrev x1 : Auction
-x1 = state (terms (item 2 2 1000) (item 2 2 1000) 3) bidsOpen 2 970 1000 1000 1000 (book (g 0) (g 2) (g 2) (g 0) (g 1) (g 0)) 0
+x1 = state (settings (item 2 2 1000) (item 2 2 1000) 3) bidsOpen 2 970 1000 1000 1000 (book (g 0) (g 2) (g 2) (g 0) (g 1) (g 0)) 0
 
-abbrev X : Terms
-X = terms (item 2 2 1000) (item 1 1 1000) 3
+abbrev X : Setup
+X = settings (item 2 2 1000) (item 1 1 1000) 3
 
 abbrev x2 : Auction
 x2 = state X bidsOpen 2 970 1000 1000 1000 (book (g 0) (g 1) (g 2) (g 0) (g 1) (g 0)) 1

@@ -5,11 +5,12 @@ use Prim.Native.Nat.{ℕ, zero, suc, _+_, _*_, _/_, _%_, _≤_, _<_}
 use native.Mathlib.Omega.{arith}
 use lib.ListN.{length, getD, take, drop}
 use lib.Seq.{drop-cons, take-add, drop-drop, take-all}
-use Rattle.rules.specs.Layout.{bytesUpTo, byte1, bytes2, bytes3, bytes4, headBytes, productBytes, bidderBytes, rowBytes, recordBytes, lineBytes, stored, read1, read2, read3, read4, stateLength, loaded, productWidth, bidderWidth, rowWidth, recordWidth, lineWidth, productsFrom, biddersFrom, rowsFrom, recordsFrom, bidsFrom}
+use Rattle.rules.specs.Layout.{bytesUpTo, byte1, bytes2, bytes3, bytes4, headBytes, laneBytes, seatBytes, rowBytes, recordBytes, lineBytes, stored, read1, read2, read3, read4, stateLength, loaded, productWidth, bidderWidth, rowWidth, recordWidth, lineWidth, productsFrom, biddersFrom, rowsFrom, recordsFrom, bidsFrom}
 use Rattle.rules.specs.Card.{noLine}
+use Rattle.rules.specs.Parts.{laneAt, seatAt, noRow}
 use Rattle.rules.specs.Held.{recordAt}
-use Rattle.rules.proofs.Storing.{Bytes}
-use Rattle.book.proofs.Loaded.{phase-at, unit-at, products-at, bidders-at, rows-at, round-at, statewide-at, filed-at, target-at, cap-at, start-at, price-at, before-at, initial-at, free-at, percent-at, decrement-at, record-at, line-at}
+use Rattle.rules.proofs.Storing.{Bytes, lane-read, seat-read, row-read, record-read, line-read}
+use Rattle.book.proofs.Loaded.{phase-at, unit-at, products-at, bidders-at, rows-at, round-at, statewide-at, filed-at}
 
 -- bytes, most significant first, of the number that they make
 two-digits : (x y : ℕ) → x < 256 → y < 256 → bytes2 (x * 256 + y) ≡ x ∷ y ∷ []
@@ -81,32 +82,32 @@ module _ (s : List ℕ) (B : Bytes s) where
       on (on (on (on (on (on (on (one 0 (phase-at s)) (one 1 (unit-at s)) refl) (one 2 (products-at s)) refl) (one 3 (bidders-at s)) refl)
       (one 4 (rows-at s)) refl) (two 5 (round-at s)) refl) (two 7 (statewide-at s)) refl) (four 9 (filed-at s)) refl
 
-  product : (p : ℕ) → p < 8 → Stands (p * 11 + 13) 11 (productBytes (loaded s) p)
-  product p h =
-      on (on (on (on (one (p * 11 + 13) (target-at s p h)) (one (p * 11 + 14) (cap-at s p h)) (omega arith))
-      (three (p * 11 + 15) (start-at s p h)) (omega arith)) (three (p * 11 + 18) (price-at s p h)) (omega arith))
-      (three (p * 11 + 21) (before-at s p h)) (omega arith)
+  lane : (p : ℕ) → p < 8 → Stands (p * productWidth + productsFrom) productWidth (laneBytes (laneAt (loaded s) p))
+  lane p h =
+      let n = p * productWidth + productsFrom in
+      rw (lane-read s p h)
+      (on (on (on (on (one n refl) (one (n + 1) refl) refl) (three (n + 2) refl) refl) (three (n + 5) refl) refl) (three (n + 8) refl) refl)
 
-  bidder : (b : ℕ) → b < 32 → Stands (b * bidderWidth + biddersFrom) bidderWidth (bidderBytes (loaded s) b)
-  bidder b h = on (two (b * bidderWidth + biddersFrom) (initial-at s b h)) (two (b * bidderWidth + (biddersFrom + 2)) (free-at s b h)) (omega arith)
+  seat : (b : ℕ) → b < 32 → Stands (b * bidderWidth + biddersFrom) bidderWidth (seatBytes (seatAt (loaded s) b))
+  seat b h = let n = b * bidderWidth + biddersFrom in rw (seat-read s b h) (on (two n refl) (two (n + 2) refl) refl)
 
-  row : (i : ℕ) → i < 8 → Stands (i * rowWidth + rowsFrom) rowWidth (rowBytes (loaded s) i)
-  row i h = on (two (i * rowWidth + rowsFrom) (percent-at s i h)) (two (i * rowWidth + (rowsFrom + 2)) (decrement-at s i h)) (omega arith)
+  row : (i : ℕ) → i < 8 → Stands (i * rowWidth + rowsFrom) rowWidth (rowBytes (getD (loaded s .decrements .row) i noRow))
+  row i h = let n = i * rowWidth + rowsFrom in rw (row-read s i h) (on (two n refl) (two (n + 2) refl) refl)
 
   entry : (k : ℕ) → k < 256 → Stands (k * recordWidth + recordsFrom) recordWidth (recordBytes (recordAt (loaded s .records) k))
   entry k h =
       let n = k * recordWidth + recordsFrom in
-      rw (← record-at s k h) (on (on (on (one n refl) (one (n + 1) refl) refl) (one (n + 2) refl) refl) (three (n + 3) refl) refl)
+      rw (record-read s k h) (on (on (on (one n refl) (one (n + 1) refl) refl) (one (n + 2) refl) refl) (three (n + 3) refl) refl)
 
-  line : (k : ℕ) → k < 256 → Stands (k * lineWidth + bidsFrom) lineWidth (lineBytes (getD (loaded s .bids) k noLine))
+  line : (k : ℕ) → k < 256 → Stands (k * lineWidth + bidsFrom) lineWidth (lineBytes (getD (loaded s .cards .lines) k noLine))
   line k h =
       let n = k * lineWidth + bidsFrom in
-      rw (← line-at s k h) (on (on (on (one n refl) (one (n + 1) refl) refl) (three (n + 2) refl) refl) (one (n + 5) refl) refl)
+      rw (line-read s k h) (on (on (on (one n refl) (one (n + 1) refl) refl) (three (n + 2) refl) refl) (one (n + 5) refl) refl)
 
   pub kept : length s ≡ stateLength → stored (loaded s) ≡ s
   unfolding stored
   kept h =
-      on (on (on (on (on head (parts (productBytes (loaded s)) productWidth productsFrom 8 product) refl) (parts (bidderBytes (loaded s)) bidderWidth biddersFrom 32 bidder) refl)
-      (parts (rowBytes (loaded s)) rowWidth rowsFrom 8 row) refl) (parts (λ k. recordBytes (recordAt (loaded s .records) k)) recordWidth recordsFrom 256 entry) refl)
-      (parts (λ k. lineBytes (getD (loaded s .bids) k noLine)) lineWidth bidsFrom 256 line) refl .is (omega arith)
+      on (on (on (on (on head (parts (λ p. laneBytes (laneAt (loaded s) p)) productWidth productsFrom 8 lane) refl) (parts (λ b. seatBytes (seatAt (loaded s) b)) bidderWidth biddersFrom 32 seat) refl)
+      (parts (λ i. rowBytes (getD (loaded s .decrements .row) i noRow)) rowWidth rowsFrom 8 row) refl) (parts (λ k. recordBytes (recordAt (loaded s .records) k)) recordWidth recordsFrom 256 entry) refl)
+      (parts (λ k. lineBytes (getD (loaded s .cards .lines) k noLine)) lineWidth bidsFrom 256 line) refl .is (omega arith)
       ∙ take-all stateLength s (omega arith)

@@ -8,21 +8,18 @@ use lib.Seq.{sets, sets-eq, length-take-le, take-add}
 use Rattle.rules.specs.declared.Tranches.{Tranches}
 use Rattle.rules.specs.declared.Quote.{Quote}
 use Rattle.rules.specs.declared.Line.{Line}
-use Rattle.rules.specs.declared.Terms.{Terms}
 use Rattle.rules.specs.declared.Auction.{Auction}
+use Rattle.rules.specs.declared.Setup.{Setup}
 use Rattle.rules.specs.declared.Place.{Place}
-use Rattle.rules.specs.Count.{from}
-use Rattle.rules.specs.Units.{tranches}
 use Rattle.rules.specs.Card.{noLine}
-use Rattle.rules.specs.Settings.{item, noItem, startOf}
+use Rattle.rules.specs.Parts.{tranchesAt, noLane, laneAt, priced, limited, noSeat, seatAt, reseated, noRow, withPhase, withRound, withPrices, withLimits, withFree, withRecords}
 use Rattle.rules.specs.Held.{recordAt, nothing}
 use Rattle.rules.specs.Accept.{placeAt}
-use Rattle.rules.specs.Cutback.{givenFor, revised}
 use Rattle.rules.specs.Calls.{opened}
-use Rattle.rules.specs.Layout.{stateLength, byte1, bytes2, bytes3, bytes4, bytesUpTo, headBytes, productBytes, bidderBytes, rowBytes, recordBytes, lineBytes, stored, headWidth, productWidth, bidderWidth, rowWidth, recordWidth, lineWidth, productsFrom, biddersFrom, rowsFrom, recordsFrom, bidsFrom}
+use Rattle.rules.specs.Layout.{stateLength, byte1, bytes2, bytes3, bytes4, bytesUpTo, headBytes, laneBytes, seatBytes, rowBytes, recordBytes, lineBytes, stored, headWidth, productWidth, bidderWidth, rowWidth, recordWidth, lineWidth, productsFrom, biddersFrom, rowsFrom, recordsFrom, bidsFrom}
 use Rattle.rules.proofs.Lists.{list-at}
 use Rattle.rules.proofs.Storing.{parts-long}
-use Rattle.storing.specs.Written.{withPhase, withRound, withFiled, withPrices, withFree, withRecords, withBids, withSlot, withoutLines, withLimits, amountAt, amounts, recordsIn, each}
+use Rattle.storing.specs.Written.{withFiled, withLines, withSlot, withoutLines, amountAt, recordsIn, each}
 use Rattle.storing.proofs.Each.{section, parts-append}
 
 -- ---- the head
@@ -48,50 +45,56 @@ longer x part w m n wide e = length-append x (bytesUpTo part n) ∙ ap₂ _+_ e 
 
 -- six sections, split before and after one of them
 module _ (h p b r e l : List ℕ) where
-  at-products : h ++ p ++ b ++ r ++ e ++ l ≡ h ++ (p ++ (b ++ r ++ e ++ l))
-  at-products = simp append-assoc
+  at-lanes : h ++ p ++ b ++ r ++ e ++ l ≡ h ++ (p ++ (b ++ r ++ e ++ l))
+  at-lanes = simp append-assoc
 
-  at-bidders : h ++ p ++ b ++ r ++ e ++ l ≡ h ++ p ++ (b ++ (r ++ e ++ l))
-  at-bidders = simp append-assoc
+  at-seats : h ++ p ++ b ++ r ++ e ++ l ≡ h ++ p ++ (b ++ (r ++ e ++ l))
+  at-seats = simp append-assoc
 
 module _ (a : Auction) where
-  abbrev toProducts : List ℕ
-  toProducts = headBytes a ++ bytesUpTo (productBytes a) 8
+  abbrev lanePart : ℕ → List ℕ
+  lanePart p = laneBytes (laneAt a p)
 
-  abbrev toBidders : List ℕ
-  toBidders = toProducts ++ bytesUpTo (bidderBytes a) 32
+  abbrev seatPart : ℕ → List ℕ
+  seatPart b = seatBytes (seatAt a b)
+
+  abbrev rowPart : ℕ → List ℕ
+  rowPart i = rowBytes (getD (a .decrements .row) i noRow)
+
+  abbrev toLanes : List ℕ
+  toLanes = headBytes a ++ bytesUpTo lanePart 8
+
+  abbrev toSeats : List ℕ
+  toSeats = toLanes ++ bytesUpTo seatPart 32
 
   abbrev toRows : List ℕ
-  toRows = toBidders ++ bytesUpTo (rowBytes a) 8
+  toRows = toSeats ++ bytesUpTo rowPart 8
 
   abbrev recordsPart : List ℕ
   recordsPart = bytesUpTo (λ k. recordBytes (recordAt (a .records) k)) 256
 
   abbrev linesPart : List ℕ
-  linesPart = bytesUpTo (λ k. lineBytes (getD (a .bids) k noLine)) 256
+  linesPart = bytesUpTo (λ k. lineBytes (getD (a .cards .lines) k noLine)) 256
 
-  products-long : length toProducts ≡ biddersFrom
-  products-long = longer (headBytes a) (productBytes a) productWidth productsFrom 8 (λ k. refl) refl
+  lanes-long : length toLanes ≡ biddersFrom
+  lanes-long = longer (headBytes a) lanePart productWidth productsFrom 8 (λ k. refl) refl
 
-  bidders-long : length toBidders ≡ rowsFrom
-  bidders-long = longer toProducts (bidderBytes a) bidderWidth biddersFrom 32 (λ k. refl) products-long
+  seats-long : length toSeats ≡ rowsFrom
+  seats-long = longer toLanes seatPart bidderWidth biddersFrom 32 (λ k. refl) lanes-long
 
   rows-long : length toRows ≡ recordsFrom
-  rows-long = longer toBidders (rowBytes a) rowWidth rowsFrom 8 (λ k. refl) bidders-long
+  rows-long = longer toSeats rowPart rowWidth rowsFrom 8 (λ k. refl) seats-long
 
   records-long : length (toRows ++ recordsPart) ≡ bidsFrom
   records-long = longer toRows (λ k. recordBytes (recordAt (a .records) k)) recordWidth recordsFrom 256 (λ k. refl) rows-long
 
-  products-in : stored a
-      ≡ headBytes a ++ (bytesUpTo (productBytes a) 8 ++ (bytesUpTo (bidderBytes a) 32 ++ bytesUpTo (rowBytes a) 8 ++ recordsPart ++ linesPart))
+  lanes-in : stored a ≡ headBytes a ++ (bytesUpTo lanePart 8 ++ (bytesUpTo seatPart 32 ++ bytesUpTo rowPart 8 ++ recordsPart ++ linesPart))
   unfolding stored
-  products-in =
-      at-products (headBytes a) (bytesUpTo (productBytes a) 8) (bytesUpTo (bidderBytes a) 32) (bytesUpTo (rowBytes a) 8) recordsPart linesPart
+  lanes-in = at-lanes (headBytes a) (bytesUpTo lanePart 8) (bytesUpTo seatPart 32) (bytesUpTo rowPart 8) recordsPart linesPart
 
-  bidders-in : stored a ≡ toProducts ++ (bytesUpTo (bidderBytes a) 32 ++ (bytesUpTo (rowBytes a) 8 ++ recordsPart ++ linesPart))
+  seats-in : stored a ≡ toLanes ++ (bytesUpTo seatPart 32 ++ (bytesUpTo rowPart 8 ++ recordsPart ++ linesPart))
   unfolding stored
-  bidders-in =
-      at-bidders (headBytes a) (bytesUpTo (productBytes a) 8) (bytesUpTo (bidderBytes a) 32) (bytesUpTo (rowBytes a) 8) recordsPart linesPart
+  seats-in = at-seats (headBytes a) (bytesUpTo lanePart 8) (bytesUpTo seatPart 32) (bytesUpTo rowPart 8) recordsPart linesPart
 
   records-in : stored a ≡ toRows ++ (recordsPart ++ linesPart)
   unfolding stored
@@ -104,28 +107,30 @@ module _ (a : Auction) where
 -- ---- one section anew
 
 module _ (a : Auction) where
-  pub free-written : (fs : List Tranches) → each (λ b. bytes2 (getD fs b (tranches 0) .0)) (biddersFrom + 2) bidderWidth 32 (stored a) ≡ stored (withFree a fs)
+  pub free-written : (fs : List Tranches) → each (λ b. bytes2 (tranchesAt fs b)) (biddersFrom + 2) bidderWidth 32 (stored a) ≡ stored (withFree a (tranchesAt fs))
   free-written fs =
-      let z = withFree a fs in
-      section (bidderBytes a) (bidderBytes z) (λ b. bytes2 (getD fs b (tranches 0) .0)) 4 2 32 (λ i. refl) (λ i. refl)
-      (λ i. omega arith) (λ i h. refl) (toProducts a) (biddersFrom + 2) (omega (arith, products-long a)) _ (bidders-in a) (bidders-in z)
+      let z = withFree a (tranchesAt fs) in
+      section (seatPart a) (seatPart z) (λ b. bytes2 (tranchesAt fs b)) bidderWidth 2 32 (λ i. refl) (λ i. refl)
+      (λ i. omega arith) (λ i h. rw (list-at (λ b. reseated (seatAt a b) (tranchesAt fs b)) noSeat 32 i h))
+      (toLanes a) (biddersFrom + 2) (omega (arith, lanes-long a)) _ (seats-in a) (seats-in z)
 
   pub prices-written : (ps qs : List Quote)
-      → each (λ p. bytes3 (amountAt ps p) ++ bytes3 (amountAt qs p)) (productsFrom + 5) productWidth 8 (stored a) ≡ stored (withPrices a (amounts ps) (amounts qs))
+      → each (λ p. bytes3 (amountAt ps p) ++ bytes3 (amountAt qs p)) (productsFrom + 5) productWidth 8 (stored a)
+      ≡ stored (withPrices a (amountAt ps) (amountAt qs))
   prices-written ps qs =
-      let z = withPrices a (amounts ps) (amounts qs) in
-      section (productBytes a) (productBytes z) _ 11 5 8 (λ i. refl) (λ i. refl) (λ i. omega arith)
-      (λ i h. rw (list-at {A = ℕ} (amountAt ps) 0 8 i h, list-at {A = ℕ} (amountAt qs) 0 8 i h))
-      (headBytes a) 18 refl _ (products-in a) (products-in z)
+      let z = withPrices a (amountAt ps) (amountAt qs) in
+      section (lanePart a) (lanePart z) _ productWidth 5 8 (λ i. refl) (λ i. refl) (λ i. omega arith)
+      (λ i h. rw (list-at (λ p. priced (laneAt a p) (amountAt ps p) (amountAt qs p)) noLane 8 i h))
+      (headBytes a) (productsFrom + 5) refl _ (lanes-in a) (lanes-in z)
 
   pub limits-written : (ts cs : List Tranches)
-      → each (λ p. byte1 (givenFor ts p) ++ byte1 (givenFor cs p)) productsFrom productWidth 8 (stored a) ≡ stored (withLimits a ts cs)
-  unfolding revised from
+      → each (λ p. byte1 (tranchesAt ts p) ++ byte1 (tranchesAt cs p)) productsFrom productWidth 8 (stored a)
+      ≡ stored (withLimits a (tranchesAt ts) (tranchesAt cs))
   limits-written ts cs =
-      let z = withLimits a ts cs in
-      section (productBytes a) (productBytes z) _ 11 0 8 (λ i. refl) (λ i. refl) (λ i. omega arith)
-      (λ i h. rw (list-at (λ p. item (givenFor ts p) (givenFor cs p) (startOf (a .terms) p)) noItem 8 i h))
-      (headBytes a) 13 refl _ (products-in a) (products-in z)
+      let z = withLimits a (tranchesAt ts) (tranchesAt cs) in
+      section (lanePart a) (lanePart z) _ productWidth 0 8 (λ i. refl) (λ i. refl) (λ i. omega arith)
+      (λ i h. rw (list-at (λ p. limited (laneAt a p) (tranchesAt ts p) (tranchesAt cs p)) noLane 8 i h))
+      (headBytes a) productsFrom refl _ (lanes-in a) (lanes-in z)
 
   pub records-written : (ps : List Place)
       → each (λ k. recordBytes (placeAt ps k .holds)) recordsFrom recordWidth 256 (stored a) ≡ stored (withRecords a (recordsIn ps))
@@ -137,7 +142,7 @@ module _ (a : Auction) where
   pub lines-gone : each (λ k. lineBytes noLine) bidsFrom lineWidth 256 (stored a) ≡ stored (withoutLines a)
   lines-gone =
       let z = withoutLines a in
-      section (λ k. lineBytes (getD (a .bids) k noLine)) (λ k. lineBytes (getD (z .bids) k noLine)) _ 6 0 256 (λ i. refl) (λ i. refl)
+      section (λ k. lineBytes (getD (a .cards .lines) k noLine)) (λ k. lineBytes (getD (z .cards .lines) k noLine)) _ 6 0 256 (λ i. refl) (λ i. refl)
       (λ i. omega arith) (λ i h. rw (getD-replicate 256 i noLine noLine h)) (toRows a ++ recordsPart a) bidsFrom (omega (arith, records-long a)) []
       (lines-in a) (lines-in z)
 
@@ -161,30 +166,30 @@ module _ (a : Auction) (u v x w : List Line) (m n : ℕ) (before : length u ≡ 
   front = toRows a ++ recordsPart a
 
   stands : (y : List Line) → length y ≡ 8
-      → stored (withBids a (u ++ y ++ w)) ≡ front ++ bytesUpTo (part u) m ++ (bytesUpTo (part y) 8 ++ bytesUpTo (part w) n)
+      → stored (withLines a (u ++ y ++ w)) ≡ front ++ bytesUpTo (part u) m ++ (bytesUpTo (part y) 8 ++ bytesUpTo (part w) n)
   unfolding stored
   stands y e =
       ap (λ t. front ++ t) (split y e) ∙ sym (append-assoc front (bytesUpTo (part u) m) (bytesUpTo (part y) 8 ++ bytesUpTo (part w) n))
 
-  middle : each (part x) (m * lineWidth + bidsFrom) lineWidth 8 (stored (withBids a (u ++ v ++ w))) ≡ stored (withBids a (u ++ x ++ w))
+  middle : each (part x) (m * lineWidth + bidsFrom) lineWidth 8 (stored (withLines a (u ++ v ++ w))) ≡ stored (withLines a (u ++ x ++ w))
   middle =
       section (part v) (part x) (part x) 6 0 8 (λ i. refl) (λ i. refl) (λ i. omega arith) (λ i h. refl)
       (front ++ bytesUpTo (part u) m) (m * lineWidth + bidsFrom) (omega (arith, longer front (part u) lineWidth bidsFrom m (λ k. refl) (records-long a)))
       (bytesUpTo (part w) n) (stands v old) (stands x new)
 
-pub slot-written : (a : Auction) (b : ℕ) (ls : List Line) → b < 32 → length ls ≡ 8 → length (a .bids) ≡ 256
+pub slot-written : (a : Auction) (b : ℕ) (ls : List Line) → b < 32 → length ls ≡ 8 → length (a .cards .lines) ≡ 256
     → each (λ p. lineBytes (getD ls p noLine)) (b * 8 * lineWidth + bidsFrom) lineWidth 8 (stored a) ≡ stored (withSlot a b ls)
 slot-written a b ls h e l =
     let m = b * 8 in
-    let u = take m (a .bids) in
-    let v = take 8 (drop m (a .bids)) in
-    let w = drop (m + 8) (a .bids) in
-    let p : a .bids ≡ u ++ v ++ w = sym (take-append-drop (m + 8) (a .bids)) ∙ ap (λ x. x ++ w) (take-add m 8 (a .bids)) in
-    let q : sets (a .bids) m ls ≡ u ++ ls ++ w = sets-eq ls (a .bids) m (omega arith) ∙ ap (λ k. u ++ ls ++ drop (m + k) (a .bids)) e in
-    ap (λ x. each (λ p. lineBytes (getD ls p noLine)) (m * lineWidth + bidsFrom) lineWidth 8 (stored (withBids a x))) p
-    ∙ middle a u v ls w m (256 - (m + 8)) (length-take-le m (a .bids) (omega arith))
-    (length-take-le 8 (drop m (a .bids)) (simp length-drop (omega arith))) e (omega arith)
-    ∙ ap (λ x. stored (withBids a x)) (sym q)
+    let u = take m (a .cards .lines) in
+    let v = take 8 (drop m (a .cards .lines)) in
+    let w = drop (m + 8) (a .cards .lines) in
+    let p : a .cards .lines ≡ u ++ v ++ w = sym (take-append-drop (m + 8) (a .cards .lines)) ∙ ap (λ x. x ++ w) (take-add m 8 (a .cards .lines)) in
+    let q : sets (a .cards .lines) m ls ≡ u ++ ls ++ w = sets-eq ls (a .cards .lines) m (omega arith) ∙ ap (λ k. u ++ ls ++ drop (m + k) (a .cards .lines)) e in
+    ap (λ x. each (λ p. lineBytes (getD ls p noLine)) (m * lineWidth + bidsFrom) lineWidth 8 (stored (withLines a x))) p
+    ∙ middle a u v ls w m (256 - (m + 8)) (length-take-le m (a .cards .lines) (omega arith))
+    (length-take-le 8 (drop m (a .cards .lines)) (simp length-drop (omega arith))) e (omega arith)
+    ∙ ap (λ x. stored (withLines a x)) (sym q)
 
 -- ---- an auction opened on bytes that are all zero
 
@@ -219,7 +224,7 @@ first : (h : List ℕ) → length h ≡ headWidth → sets (replicate stateLengt
 unfolding each bytesUpTo
 first h e = onto (λ k. h) headWidth (λ k. e) [] 0 1 (stateLength - headWidth) refl
 
-module _ (t : Terms) where
+module _ (t : Setup) where
   no-records : recordsPart (opened t) ≡ replicate (256 * recordWidth) 0
   unfolding opened
   no-records = zeros-are _ 6 256 (λ k h. ap (λ r. recordBytes r) (getD-replicate 256 k nothing nothing h))
@@ -229,14 +234,17 @@ module _ (t : Terms) where
   no-lines = zeros-are _ 6 256 (λ k h. ap (λ l. lineBytes l) (getD-replicate 256 k noLine noLine h))
 
   pub opened-written : {s s₁ s₂ s₃ s₄ : List ℕ} → s ≡ replicate stateLength 0 → s₁ ≡ sets s 0 (headBytes (opened t))
-      → s₂ ≡ each (productBytes (opened t)) productsFrom productWidth 8 s₁ → s₃ ≡ each (bidderBytes (opened t)) biddersFrom bidderWidth 32 s₂
-      → s₄ ≡ each (rowBytes (opened t)) rowsFrom rowWidth 8 s₃ → s₄ ≡ stored (opened t)
-  unfolding stored
+      → s₂ ≡ each (lanePart (opened t)) productsFrom productWidth 8 s₁ → s₃ ≡ each (seatPart (opened t)) biddersFrom bidderWidth 32 s₂
+      → s₄ ≡ each (λ i. rowBytes (getD (t .decrements .row) i noRow)) rowsFrom rowWidth 8 s₃ → s₄ ≡ stored (opened t)
+  unfolding stored opened
   opened-written e e₁ e₂ e₃ e₄ =
       let o = opened t in
       let f₁ = e₁ ∙ ap (λ s. sets s 0 (headBytes o)) e ∙ first (headBytes o) refl in
-      let f₂ = e₂ ∙ ap (each (productBytes o) productsFrom productWidth 8) f₁ ∙ onto (productBytes o) 11 (λ k. refl) (headBytes o) 13 8 (stateLength - biddersFrom) refl in
-      let f₃ = e₃ ∙ ap (each (bidderBytes o) biddersFrom bidderWidth 32) f₂ ∙ onto (bidderBytes o) 4 (λ k. refl) (toProducts o) biddersFrom 32 (stateLength - rowsFrom) (products-long o) in
-      let f₄ = e₄ ∙ ap (each (rowBytes o) rowsFrom rowWidth 8) f₃ ∙ onto (rowBytes o) 4 (λ k. refl) (toBidders o) rowsFrom 8 (stateLength - recordsFrom) (bidders-long o) in
+      let f₂ = e₂ ∙ ap (each (lanePart o) productsFrom productWidth 8) f₁
+      ∙ onto (lanePart o) productWidth (λ k. refl) (headBytes o) productsFrom 8 (stateLength - biddersFrom) refl in
+      let f₃ = e₃ ∙ ap (each (seatPart o) biddersFrom bidderWidth 32) f₂
+      ∙ onto (seatPart o) bidderWidth (λ k. refl) (toLanes o) biddersFrom 32 (stateLength - rowsFrom) (lanes-long o) in
+      let f₄ = e₄ ∙ ap (each (rowPart o) rowsFrom rowWidth 8) f₃
+      ∙ onto (rowPart o) rowWidth (λ k. refl) (toSeats o) rowsFrom 8 (stateLength - recordsFrom) (seats-long o) in
       f₄ ∙ ap (λ z. toRows o ++ z) (sym (ap₂ _++_ no-records no-lines ∙ replicate-append-replicate (256 * recordWidth) (256 * lineWidth) 0))
       ∙ sym (append-assoc (toRows o) (recordsPart o) (linesPart o))

@@ -3,19 +3,21 @@
 ghost use mathlib.Core.Path.{_≡_};
 ghost use mathlib.Core.List.{_++_};
 ghost use Prim.Native.Nat.{_+_, _≤_, _<_};
-ghost use lib.ListN.{length, replicate};
+ghost use lib.ListN.{length, getD, replicate};
 ghost use lib.Seq.{sets};
 ghost use Rattle.rules.specs.declared.Auction.{Auction};
+ghost use Rattle.rules.specs.Parts.{tranchesAt, lane, laneAt, seatAt, noRow, withPhase, withRound, withPrices, withLimits, withFree, withRecords};
 ghost use Rattle.rules.specs.Calls.{opened};
-ghost use Rattle.rules.specs.Layout.{stateLength, productsFrom, biddersFrom, rowsFrom, byte1, bytes2, bytes3, bytes4, headBytes, productBytes, bidderBytes, rowBytes, recordBytes, lineBytes, stored, loaded};
+ghost use Rattle.rules.specs.Layout.{stateLength, productWidth, bidderWidth, rowWidth, recordWidth, lineWidth, productsFrom, biddersFrom, rowsFrom, byte1, bytes2, bytes3, bytes4, headBytes, laneBytes, seatBytes, rowBytes, recordBytes, lineBytes, stored, loaded};
 ghost use Rattle.book.specs.Lent.{Long};
 ghost use Rattle.table.specs.Rows.{placesIn};
-ghost use Rattle.storing.specs.Written.{Writes, withPhase, withRound, withFiled, withSlot, withoutLines, withFree, withPrices, withLimits, withRecords, amounts, recordsIn, each};
+ghost use Rattle.storing.specs.Written.{Writes, withFiled, withSlot, withoutLines, amountAt, recordsIn, each};
+use rules::Decrements;
 use rules::Item;
 use rules::Line;
 use rules::Quote;
 use rules::Record;
-use rules::Terms;
+use rules::Setup;
 use rules::Tranches;
 
 // The phase; and what is lent is bytes, so that they are those of the auction in them.
@@ -73,7 +75,7 @@ fn four(s: &mut [u8], k: usize, x: u32)
 // ---- One entry
 
 fn record(s: &mut [u8], k: usize, r: Record)
-    requires { ⌜ k + 6 ≤ length (now s) ⌝ }
+    requires { ⌜ k + recordWidth ≤ length (now s) ⌝ }
     ensures { λ _. ⌜ now (s .exit) ≡ sets (now (s .entry)) k (recordBytes r) ⌝ }
 {
     one(s, k, r.going.0);
@@ -83,7 +85,7 @@ fn record(s: &mut [u8], k: usize, r: Record)
 }
 
 fn line(s: &mut [u8], k: usize, l: Line)
-    requires { ⌜ k + 6 ≤ length (now s) ⌝ }
+    requires { ⌜ k + lineWidth ≤ length (now s) ⌝ }
     ensures { λ _. ⌜ now (s .exit) ≡ sets (now (s .entry)) k (lineBytes l) ⌝ }
 {
     one(s, k, l.tranches.0);
@@ -121,7 +123,7 @@ pub fn filed(s: &mut [u8], x: u32)
 // A bidder's eight lines.
 pub fn slot(s: &mut [u8], b: usize, lines: [Line; 8])
     requires { ⌜ Long (now s) × (b < 32) ⌝ }
-    ensures { λ _. ⌜ ((a : Auction) → length (a .bids) ≡ 256 → now (s .entry) ≡ stored a → now (s .exit) ≡ stored (withSlot a b lines)) ⌝ }
+    ensures { λ _. ⌜ ((a : Auction) → length (a .cards .lines) ≡ 256 → now (s .entry) ≡ stored a → now (s .exit) ≡ stored (withSlot a b lines)) ⌝ }
 {
     let from = b * 8 * layout::LINE + layout::BIDS;
     let mut p: usize = 0;
@@ -149,7 +151,7 @@ pub fn no_lines(s: &mut [u8])
 // The free eligibility of every bidder.
 pub fn free(s: &mut [u8], free: [Tranches; 32])
     requires { ⌜ Long (now s) ⌝ }
-    ensures { λ _. ⌜ Writes (now (s .entry)) (now (s .exit)) (λ a. withFree a free) ⌝ }
+    ensures { λ _. ⌜ Writes (now (s .entry)) (now (s .exit)) (λ a. withFree a (tranchesAt free)) ⌝ }
 {
     let mut b: usize = 0;
     while b < 32 {
@@ -162,7 +164,7 @@ pub fn free(s: &mut [u8], free: [Tranches; 32])
 // The going price of every product, and the price before its latest fall.
 pub fn prices(s: &mut [u8], price: [Quote; 8], before: [Quote; 8])
     requires { ⌜ Long (now s) ⌝ }
-    ensures { λ _. ⌜ Writes (now (s .entry)) (now (s .exit)) (λ a. withPrices a (amounts price) (amounts before)) ⌝ }
+    ensures { λ _. ⌜ Writes (now (s .entry)) (now (s .exit)) (λ a. withPrices a (amountAt price) (amountAt before)) ⌝ }
 {
     let mut p: usize = 0;
     while p < 8 {
@@ -179,7 +181,7 @@ pub fn prices(s: &mut [u8], price: [Quote; 8], before: [Quote; 8])
 // The revised targets and caps.
 pub fn limits(s: &mut [u8], targets: [Tranches; 8], caps: [Tranches; 8])
     requires { ⌜ Long (now s) ⌝ }
-    ensures { λ _. ⌜ Writes (now (s .entry)) (now (s .exit)) (λ a. withLimits a targets caps) ⌝ }
+    ensures { λ _. ⌜ Writes (now (s .entry)) (now (s .exit)) (λ a. withLimits a (tranchesAt targets) (tranchesAt caps)) ⌝ }
 {
     let mut p: usize = 0;
     while p < 8 {
@@ -208,24 +210,24 @@ pub fn records(s: &mut [u8], ps: &[[u32; table::WIDTH]; 256])
 
 // ---- An auction opened
 
-fn head(s: &mut [u8], t: Terms)
+fn head(s: &mut [u8], t: Setup)
     requires { ⌜ Long (now s) ⌝ }
     ensures { λ _. ⌜ (now (s .exit) ≡ sets (now (s .entry)) 0 (headBytes (opened t))) × Long (now (s .exit)) ⌝ }
 {
     byte(s, layout::PHASE, 1);
-    byte(s, layout::UNIT, t.unit);
-    byte(s, layout::PRODUCTS, t.products);
-    byte(s, layout::BIDDERS, t.bidders);
-    byte(s, layout::ROWS, t.rows);
+    byte(s, layout::UNIT, t.terms.unit);
+    byte(s, layout::PRODUCTS, t.terms.products);
+    byte(s, layout::BIDDERS, t.terms.bidders);
+    byte(s, layout::ROWS, t.decrements.rows);
     two(s, layout::ROUND, 1);
-    two(s, layout::STATEWIDE, t.statewide.0);
+    two(s, layout::STATEWIDE, t.terms.statewide.0);
     four(s, layout::FILED, 0);
 }
 
 // Both prices are the starting price.
 fn product(s: &mut [u8], k: usize, item: Item)
-    requires { ⌜ k + 11 ≤ length (now s) ⌝ }
-    ensures { λ _. ⌜ now (s .exit) ≡ sets (now (s .entry)) k (byte1 (item .target .0) ++ byte1 (item .cap .0) ++ bytes3 (item .start) ++ bytes3 (item .start) ++ bytes3 (item .start)) ⌝ }
+    requires { ⌜ k + productWidth ≤ length (now s) ⌝ }
+    ensures { λ _. ⌜ now (s .exit) ≡ sets (now (s .entry)) k (laneBytes (lane (item .target .0) (item .cap .0) (item .start) (item .start) (item .start))) ⌝ }
 {
     one(s, k, item.target.0);
     one(s, k + 1, item.cap.0);
@@ -242,9 +244,9 @@ fn pair(s: &mut [u8], k: usize, x: u16, y: u16)
     two(s, k + 2, y);
 }
 
-fn products(s: &mut [u8], t: Terms)
+fn products(s: &mut [u8], t: Setup)
     requires { ⌜ Long (now s) ⌝ }
-    ensures { λ _. ⌜ now (s .exit) ≡ each (productBytes (opened t)) productsFrom 11 8 (now (s .entry)) ⌝ }
+    ensures { λ _. ⌜ now (s .exit) ≡ each (λ p. laneBytes (laneAt (opened t) p)) productsFrom productWidth 8 (now (s .entry)) ⌝ }
 {
     let mut p: usize = 0;
     while p < 8 {
@@ -255,9 +257,9 @@ fn products(s: &mut [u8], t: Terms)
 }
 
 // "f is the initial eligibility."
-fn bidders(s: &mut [u8], t: Terms)
+fn bidders(s: &mut [u8], t: Setup)
     requires { ⌜ Long (now s) ⌝ }
-    ensures { λ _. ⌜ now (s .exit) ≡ each (bidderBytes (opened t)) biddersFrom 4 32 (now (s .entry)) ⌝ }
+    ensures { λ _. ⌜ now (s .exit) ≡ each (λ b. seatBytes (seatAt (opened t) b)) biddersFrom bidderWidth 32 (now (s .entry)) ⌝ }
 {
     let mut b: usize = 0;
     while b < 32 {
@@ -267,13 +269,13 @@ fn bidders(s: &mut [u8], t: Terms)
     }
 }
 
-fn rows(s: &mut [u8], t: Terms)
+fn rows(s: &mut [u8], d: Decrements)
     requires { ⌜ Long (now s) ⌝ }
-    ensures { λ _. ⌜ now (s .exit) ≡ each (rowBytes (opened t)) rowsFrom 4 8 (now (s .entry)) ⌝ }
+    ensures { λ _. ⌜ now (s .exit) ≡ each (λ i. rowBytes (getD (d .row) i noRow)) rowsFrom rowWidth 8 (now (s .entry)) ⌝ }
 {
     let mut i: usize = 0;
     while i < 8 {
-        let v = t.row[i];
+        let v = d.row[i];
         pair(
             s,
             i * layout::ROW + layout::PERCENT,
@@ -285,12 +287,13 @@ fn rows(s: &mut [u8], t: Terms)
 }
 
 // The records and the lines are zero as issued.
-pub fn opened(s: &mut [u8], t: Terms)
+pub fn opened(s: &mut [u8], t: Setup)
     requires { ⌜ now s ≡ replicate stateLength 0 ⌝ }
     ensures { λ _. ⌜ now (s .exit) ≡ stored (opened t) ⌝ }
 {
     head(s, t);
     products(s, t);
     bidders(s, t);
-    rows(s, t);
+    let d = t.decrements;
+    rows(s, d);
 }

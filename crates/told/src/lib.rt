@@ -114,7 +114,7 @@ fn put_awards(
 }
 
 // Bidder b on product p stands at b * 8 + p; one that is not there, past the end.
-pub fn entry(b: usize, p: usize) -> usize {
+fn entry(b: usize, p: usize) -> usize {
     if b < 32 {
         if p < 8 {
             return b * 8 + p;

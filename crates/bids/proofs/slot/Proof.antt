@@ -9,7 +9,7 @@ use Rattle.bids.proofs.slot.Statement.{statement}
 use Rattle.bids.proofs.slot.Tie as tie
 
 abbrev Inv-loop : tie.InvT-loop
-Inv-loop s b lines₀ p₀ lines p = Filled (λ p. getD (loaded s .bids) (place b p) noLine) 8 p lines
+Inv-loop s b lines₀ p₀ lines p = Filled (λ p. getD (loaded s .cards .lines) (place b p) noLine) 8 p lines
 
 abbrev μ-loop : tie.MeasureT-loop
 μ-loop s b lines₀ p₀ lines p = 8 - p

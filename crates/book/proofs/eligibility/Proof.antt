@@ -6,12 +6,12 @@ use Rattle.rules.specs.Layout.{loaded}
 use Rattle.book.proofs.Loaded.{eligibility-is}
 use mathlib.Core.Path.{_∙_, ap}
 use Rattle.rules.specs.Units.{tranches}
-use Rattle.rules.specs.Settings.{initialOf}
+use Rattle.rules.specs.Settings.{setup, initialOf}
 use Rattle.book.proofs.eligibility.Statement.{statement}
 use Rattle.book.proofs.eligibility.Tie as tie
 
 abbrev Inv-loop : tie.InvT-loop
-Inv-loop s all₀ b₀ all b = Filled (λ b. tranches (initialOf (loaded s .terms) b)) 32 b all
+Inv-loop s all₀ b₀ all b = Filled (λ b. tranches (initialOf (setup (loaded s)) b)) 32 b all
 
 abbrev μ-loop : tie.MeasureT-loop
 μ-loop s all₀ b₀ all b = 32 - b

@@ -5,12 +5,12 @@ use Rattle.rules.proofs.Fill.{Filled, none-filled, one-more, all-filled}
 use Rattle.rules.specs.Layout.{loaded}
 use Rattle.book.proofs.Loaded.{items-are}
 use mathlib.Core.Path.{_∙_}
-use Rattle.rules.specs.Settings.{item, targetOf, capOf, startOf}
+use Rattle.rules.specs.Settings.{setup, item, targetOf, capOf, startOf}
 use Rattle.book.proofs.items.Statement.{statement}
 use Rattle.book.proofs.items.Tie as tie
 
 abbrev Inv-loop : tie.InvT-loop
-Inv-loop s all₀ p₀ all p = Filled (λ p. item (targetOf (loaded s .terms) p) (capOf (loaded s .terms) p) (startOf (loaded s .terms) p)) 8 p all
+Inv-loop s all₀ p₀ all p = Filled (λ p. item (targetOf (setup (loaded s)) p) (capOf (setup (loaded s)) p) (startOf (setup (loaded s)) p)) 8 p all
 
 abbrev μ-loop : tie.MeasureT-loop
 μ-loop s all₀ p₀ all p = 8 - p

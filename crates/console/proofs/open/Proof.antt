@@ -28,7 +28,7 @@ returns-3 c =
 returns-4 : tie.Need-returns-4
 returns-4 c =
     open-done _ _ (search needs) (sym (c .before .before .before .before .before .before .before .before .is-zero .ensures) ∙ zero (c .before .before .before .before .before .before .before)) (sym (c .before .before .before .before .before .before .settings-fit .ensures) ∙ fit (c .before .before .before .before .before)) _
-    (c .before .before .opened .ensures ∙ ap (λ t. stored (opened t)) (c .before .before .before .terms-of .ensures))
+    (c .before .before .opened .ensures ∙ ap (λ t. stored (opened t)) (c .before .before .before .setup-of .ensures))
 
 pub open-spec : {M : Type 1} → statement M
 open-spec =

@@ -4,13 +4,14 @@ use native.Mathlib.Nat.{le-antisymm}
 use native.Mathlib.Numerals.{add-one}
 use borrow.Author.Needs.{needs}
 use Rattle.rules.specs.Count.{allUpTo}
+use Rattle.rules.specs.Settings.{setup}
 use Rattle.rules.specs.Cutback.{numbersFit}
 use Rattle.rules.specs.Layout.{loaded}
 use Rattle.cutback.proofs.all_fit.Statement.{statement}
 use Rattle.cutback.proofs.all_fit.Tie as tie
 
 abbrev Inv-loop : tie.InvT-loop
-Inv-loop s targets caps all₀ p₀ all p = (p ≤ 8) × (all ≡ allUpTo (numbersFit (loaded s .terms) targets caps) p)
+Inv-loop s targets caps all₀ p₀ all p = (p ≤ 8) × (all ≡ allUpTo (numbersFit (setup (loaded s)) targets caps) p)
 
 abbrev μ-loop : tie.MeasureT-loop
 μ-loop s targets caps all₀ p₀ all p = 8 - p

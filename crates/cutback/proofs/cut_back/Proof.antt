@@ -9,18 +9,18 @@ reduce-requires c κs = cuttable _ _ _ (c .before .before .pre)
 
 stops-requires : tie.Need-stops-requires
 stops-requires c κs =
-    let r = c .before .before .before .before .before in
+    let r = c .before .before .before in
     lent _ _ _ (r .before .before .before .pre) (r .reduce .ensures)
 
 returns : tie.Need-returns
 returns c =
     let t = c .before in
-    let r = t .before .before .before .before .before .before in
+    let r = t .before .before .before .before in
     ends _ _ _ (r .before .before .before .pre) (r .reduce .ensures) (sym (t .stops .ensures) ∙ c .if1 .taken)
 
 opens-at-requires : tie.Need-opens-at-requires
 opens-at-requires c κs =
-    let r = c .before .before .before .before .before .before .before .before .before .before in
+    let r = c .before .before .before .before .before .before .before .before in
     lent _ _ _ (r .before .before .before .pre) (r .reduce .ensures)
 
 returns-2 : tie.Need-returns-2
@@ -29,7 +29,7 @@ returns-2 c =
     let n = o .before .before in
     let i = n .before .before in
     let t = i .before in
-    let r = t .before .before .before .before .before .before in
+    let r = t .before .before .before .before in
     goes-on _ _ _ (r .before .before .before .pre) (r .reduce .ensures) (sym (t .stops .ensures) ∙ i .if1 .left)
     (n .round .result) (n .round .ensures) (o .opens-at .ensures)
 
@@ -38,7 +38,6 @@ cut-back-spec =
     tie.close
     (tie.spec
     reduce-requires
-    (λ c κs. search needs)
     stops-requires
     (λ c. search needs)
     returns

@@ -1,16 +1,15 @@
-use Prim.Native.Nat.{_+_, _-_}
+use Prim.Native.Nat.{_-_}
 use native.Mathlib.Omega.{arith}
 use borrow.Author.Needs.{needs}
 use Rattle.rules.specs.Units.{tranches}
-use Rattle.rules.specs.Held.{freeOf}
-use Rattle.rules.specs.Cutback.{cutFrom}
+use Rattle.rules.specs.Cutback.{freeCut}
 use Rattle.rules.specs.Layout.{loaded}
 use Rattle.rules.proofs.Fill.{Filled, none-filled, one-more, all-filled}
 use Rattle.cutback.proofs.freed.Statement.{statement}
 use Rattle.cutback.proofs.freed.Tie as tie
 
 abbrev Inv-loop : tie.InvT-loop
-Inv-loop s caps all₀ b₀ all b = Filled (λ b. tranches (freeOf (loaded s) b + cutFrom (loaded s) caps b)) 32 b all
+Inv-loop s caps all₀ b₀ all b = Filled (λ b. tranches (freeCut (loaded s) caps b)) 32 b all
 
 abbrev μ-loop : tie.MeasureT-loop
 μ-loop s caps all₀ b₀ all b = 32 - b

@@ -46,7 +46,7 @@ returns-4 c =
     let r = reads (c .before .before .before .before .before .before .before .before .before .before .before .before .before .before .before .before .before .before .before .before) in
     bid-filed s (c .before .before .before .before .before .before .before .before .before .before .before .before .before .before .before .before .before .before .before .before .before .before .before .before .before .before .before .before .args .card .now) (c .before .before .before .before .before .before .before .before .before .before .before .before .before .before .before .before .before .before .before .before .read .result) (r .bidding) (r .read) _ _ (c .before .before .before .before .before .before .before .before .before .before .before .before .before .before .bid-number .result) (c .before .before .before .before .before .before .before .before .before .before .before .before .before .before .before .before .before .answer .given .1) (c .before .before .before .before .before .before .before .before .before .before .before .before .before .before .bid-number .ensures) (omega (arith, c .before .before .before .before .before .before .before .before .before .before .before .before .before .if2 .left)) _
     (slot-filed (loaded s) _ _ (c .before .before .before .before .before .before .before .before .before .before .marked .result) (c .before .before .before .before .before .before .before .before .before .before .before .before .before .before .before .before .before .before .before .before .read .result .lines) (c .before .before .before .before .before .before .before .before .before .before .marked .ensures) (c .before .before .before .before .before .before .before .before .before .before .before .filed .ensures)
-    (c .before .before .filed2 .ensures _ (c .before .before .before .before .before .before .slot .ensures (loaded s) (loaded-long s .bids) (c .before .before .before .before .before .before .before .before .as-stored .ensures .1))))
+    (c .before .before .filed2 .ensures _ (c .before .before .before .before .before .before .slot .ensures (loaded s) (loaded-long s .lines) (c .before .before .before .before .before .before .before .before .as-stored .ensures .1))))
 
 pub file-card-spec : {M : Type 1} → statement M
 file-card-spec =

@@ -18,10 +18,10 @@ abbrev atOne : Auction → ℕ → Bool
 atOne a p = ticked a p && eqb (priceAt a p) 1
 
 abbrev Inv-loop : tie.InvT-loop
-Inv-loop s m one₀ p₀ one p = (p ≤ m) × (one ≡ isAt (firstUpTo (atOne (loaded s)) p))
+Inv-loop s held m one₀ p₀ one p = (p ≤ m) × (one ≡ isAt (firstUpTo (atOne (loaded s)) p))
 
 abbrev μ-loop : tie.MeasureT-loop
-μ-loop s m one₀ p₀ one p = m - p
+μ-loop s held m one₀ p₀ one p = m - p
 
 loop-again : tie.Need-loop-again Inv-loop μ-loop
 loop-again c =

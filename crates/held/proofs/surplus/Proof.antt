@@ -7,7 +7,7 @@ use Rattle.held.proofs.surplus.Tie as tie
 
 returns : tie.Need-returns
 returns c =
-    let z = c .before .standing in
+    let z = c .before .standing-by in
     let e = c .above-zero .ensures ∙ ap aboveZero (back (z .result) (z .ok) ∙ z .ensures .0) in
     (e, rw e (z .ensures .1))
 

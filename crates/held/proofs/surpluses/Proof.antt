@@ -11,10 +11,10 @@ use Rattle.held.proofs.surpluses.Statement.{statement}
 use Rattle.held.proofs.surpluses.Tie as tie
 
 abbrev Inv-loop : tie.InvT-loop
-Inv-loop s m sum₀ p₀ sum p = (p ≤ m) × ((sum ≤ 6291360 * p) × (sum ≡ sumUpTo (λ p. aboveZero (standingOf (loaded s) p)) p))
+Inv-loop s held m sum₀ p₀ sum p = (p ≤ m) × ((sum ≤ 6291360 * p) × (sum ≡ sumUpTo (λ p. aboveZero (standingOf (loaded s) p)) p))
 
 abbrev μ-loop : tie.MeasureT-loop
-μ-loop s m sum₀ p₀ sum p = m - p
+μ-loop s held m sum₀ p₀ sum p = m - p
 
 loop-again : tie.Need-loop-again Inv-loop μ-loop
 loop-again c = rw add-one (omega arith)

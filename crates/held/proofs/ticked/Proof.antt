@@ -6,7 +6,7 @@ use Rattle.held.proofs.ticked.Statement.{statement}
 use Rattle.held.proofs.ticked.Tie as tie
 
 returns : tie.Need-returns
-returns c = ap above (back _ (c .standing .ok) ∙ c .standing .ensures .0)
+returns c = ap above (back _ (c .standing-by .ok) ∙ c .standing-by .ensures .0)
 
 pub ticked-spec : {M : Type 1} → statement M
 ticked-spec =

@@ -3,7 +3,10 @@ use Rattle.holdings.proofs.fell_where_due.Statement.{statement}
 use Rattle.holdings.proofs.fell_where_due.Tie as tie
 
 returns : tie.Need-returns
-returns c = rw (c .choose2 .ensures, c .before .before .before .choose .ensures, c .before .before .before .before .before .phase .ensures, c .before .before .before .before .ticked .ensures, c .before .before .kept-on .ensures .0, c .before .met .ensures)
+returns c =
+    let d = c .before .before .before in
+    let h = d .before .before .before .before .pre in
+    rw (c .choose2 .ensures, d .choose .ensures, d .before .before .phase .ensures, d .before .ticked .ensures, h .0 .kept _ (h .1), c .before .met .ensures)
 
 pub fell-where-due-spec : {M : Type 1} → statement M
 fell-where-due-spec =
@@ -12,7 +15,8 @@ fell-where-due-spec =
     (λ c κs. search needs)
     (λ c κs. search needs)
     (λ c κs. search needs)
-    (λ c κs. search needs)
+    (λ c. search needs)
+    (λ c. search needs)
     (λ c κs. search needs)
     (λ c κs. search needs)
     returns)

@@ -7,10 +7,10 @@ use Rattle.holdings.proofs.products_stand.Statement.{statement}
 use Rattle.holdings.proofs.products_stand.Tie as tie
 
 abbrev Inv-loop : tie.InvT-loop
-Inv-loop s ok₀ p₀ ok p = Passed (productStands (loaded s)) 8 p ok
+Inv-loop s held kept ok₀ p₀ ok p = Passed (productStands (loaded s)) 8 p ok
 
 abbrev μ-loop : tie.MeasureT-loop
-μ-loop s ok₀ p₀ ok p = 8 - p
+μ-loop s held kept ok₀ p₀ ok p = 8 - p
 
 pub products-stand-spec : {M : Type 1} → statement M
 products-stand-spec =

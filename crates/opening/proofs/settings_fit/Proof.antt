@@ -9,8 +9,8 @@ one-unit-requires c κs = search needs
 returns : tie.Need-returns
 returns c = rw (no (c .before .one-unit .ensures) (c .if1 .taken))
 
-terms-of-requires : tie.Need-terms-of-requires
-terms-of-requires c κs = search needs
+setup-of-requires : tie.Need-setup-of-requires
+setup-of-requires c κs = search needs
 
 within-limits-requires : tie.Need-within-limits-requires
 within-limits-requires c κs = search needs
@@ -18,9 +18,9 @@ within-limits-requires c κs = search needs
 returns-2 : tie.Need-returns-2
 returns-2 c =
     let p = c .before .before in
-    rw (yes (p .before .one-unit .ensures) (p .if1 .left), ← c .before .terms-of .ensures) (c .within-limits .ensures)
+    rw (yes (p .before .one-unit .ensures) (p .if1 .left), ← c .before .setup-of .ensures) (c .within-limits .ensures)
 
 pub settings-fit-spec : {M : Type 1} → statement M
 settings-fit-spec =
     tie.close
-    (tie.spec one-unit-requires returns terms-of-requires within-limits-requires returns-2)
+    (tie.spec one-unit-requires returns setup-of-requires within-limits-requires returns-2)

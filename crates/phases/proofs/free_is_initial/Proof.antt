@@ -4,13 +4,13 @@ use borrow.Author.Needs.{needs}
 use lib.Dec.{eqb}
 use Rattle.rules.specs.Held.{freeOf}
 use Rattle.rules.specs.Layout.{loaded}
-use Rattle.rules.specs.Settings.{initialOf}
+use Rattle.rules.specs.Settings.{setup, initialOf}
 use Rattle.held.proofs.Passed.{Passed, all-passed, none-passed, one-passed}
 use Rattle.phases.proofs.free_is_initial.Statement.{statement}
 use Rattle.phases.proofs.free_is_initial.Tie as tie
 
 abbrev Inv-loop : tie.InvT-loop
-Inv-loop s ok₀ b₀ ok b = Passed (λ b. eqb (freeOf (loaded s) b) (initialOf (loaded s .terms) b)) 32 b ok
+Inv-loop s ok₀ b₀ ok b = Passed (λ b. eqb (freeOf (loaded s) b) (initialOf (setup (loaded s)) b)) 32 b ok
 
 abbrev μ-loop : tie.MeasureT-loop
 μ-loop s ok₀ b₀ ok b = 32 - b

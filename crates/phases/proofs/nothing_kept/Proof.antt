@@ -10,10 +10,17 @@ use Rattle.phases.proofs.nothing_kept.Statement.{statement}
 use Rattle.phases.proofs.nothing_kept.Tie as tie
 
 abbrev Inv-loop : tie.InvT-loop
-Inv-loop s m ok₀ p₀ ok p = Passed (λ p. eqb (keptOn (loaded s) p) 0) (loaded s .terms .products) p ok
+Inv-loop s kept m ok₀ p₀ ok p = Passed (λ p. eqb (keptOn (loaded s) p) 0) (loaded s .terms .products) p ok
 
 abbrev μ-loop : tie.MeasureT-loop
-μ-loop s m ok₀ p₀ ok p = m - p
+μ-loop s kept m ok₀ p₀ ok p = m - p
+
+loop-again : tie.Need-loop-again Inv-loop μ-loop
+loop-again c =
+    let v = c .before .before in
+    let h = v .before .before .before .pre in
+    let few = h .0 .counts .products in
+    one-passed (v .loop .inv) (omega arith) (ap (λ x. eqb x 0) (h .1 (v .loop .p) (omega arith)))
 
 pub nothing-kept-spec : {M : Type 1} → statement M
 nothing-kept-spec =
@@ -23,8 +30,9 @@ nothing-kept-spec =
     μ-loop
     (λ c κs. search needs)
     (λ c. none-passed)
-    (λ c κs. search needs)
     (λ c. search needs)
     (λ c. search needs)
-    (λ c. one-passed (c .before .before .loop .inv) (omega arith) (ap (λ x. eqb x 0) (c .kept-on .ensures .0)))
+    (λ c. search needs)
+    (λ c. search needs)
+    loop-again
     (λ c. all-passed (c .before .loop .inv) (omega arith)))

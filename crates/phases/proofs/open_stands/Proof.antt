@@ -13,10 +13,10 @@ returns : tie.Need-returns
 returns c = rw (← c .before .before .round .ensures, c .before .if1 .taken) (c .as-opened .ensures)
 
 returns-2 : tie.Need-returns-2
-returns-2 c = rw (← c .before .before .before .before .round .ensures, c .before .if2 .taken, c .before .before .excess .ensures .0, c .nothing-kept .ensures)
+returns-2 c = rw (← c .before .before .before .before .round .ensures, c .before .if2 .taken, c .before .before .excess-by .ensures .0, c .nothing-kept .ensures)
 
 returns-3 : tie.Need-returns-3
-returns-3 c = rw (← c .before .before .before .round .ensures, ne-eqb _ _ (c .before .before .if1 .left), ne-eqb _ _ (c .if2 .left), ← c .before .excess .ensures .0) (and-true _)
+returns-3 c = rw (← c .before .before .before .round .ensures, ne-eqb _ _ (c .before .before .if1 .left), ne-eqb _ _ (c .if2 .left), ← c .before .excess-by .ensures .0) (and-true _)
 
 pub open-stands-spec : {M : Type 1} → statement M
 open-stands-spec =

@@ -4,13 +4,13 @@ use borrow.Author.Needs.{needs}
 use lib.Dec.{eqb}
 use Rattle.rules.specs.Bid.{beforeAt, priceAt}
 use Rattle.rules.specs.Layout.{loaded}
-use Rattle.rules.specs.Settings.{startOf}
+use Rattle.rules.specs.Settings.{setup, startOf}
 use Rattle.held.proofs.Passed.{Passed, all-passed, none-passed, one-passed}
 use Rattle.phases.proofs.prices_at_start.Statement.{statement}
 use Rattle.phases.proofs.prices_at_start.Tie as tie
 
 abbrev Inv-loop : tie.InvT-loop
-Inv-loop s ok₀ p₀ ok p = Passed (λ p. eqb (priceAt (loaded s) p) (startOf (loaded s .terms) p) && eqb (beforeAt (loaded s) p) (startOf (loaded s .terms) p)) 8 p ok
+Inv-loop s ok₀ p₀ ok p = Passed (λ p. eqb (priceAt (loaded s) p) (startOf (setup (loaded s)) p) && eqb (beforeAt (loaded s) p) (startOf (setup (loaded s)) p)) 8 p ok
 
 abbrev μ-loop : tie.MeasureT-loop
 μ-loop s ok₀ p₀ ok p = 8 - p

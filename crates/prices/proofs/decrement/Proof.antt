@@ -10,7 +10,7 @@ use Rattle.prices.proofs.decrement.Statement.{statement}
 use Rattle.prices.proofs.decrement.Tie as tie
 
 abbrev Inv-loop : tie.InvT-loop
-Inv-loop s percent n found₀ i₀ found i = (i ≤ n) × (found .0 ≡ decrementUpTo (loaded s .terms) percent i)
+Inv-loop s percent n found₀ i₀ found i = (i ≤ n) × (found .0 ≡ decrementUpTo (loaded s .decrements) percent i)
 
 abbrev μ-loop : tie.MeasureT-loop
 μ-loop s percent n found₀ i₀ found i = n - i

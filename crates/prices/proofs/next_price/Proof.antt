@@ -11,13 +11,13 @@ returns : tie.Need-returns
 returns c u m e =
     let a = c .before .before .before .before .before .before .args in
     let z = back (a .standing) (c .before .before .before .before .before .before .fits .standing .sfits) in
-    falls u m (a .standing) e (loaded (a .s .now) .terms) (a .target .0) (c .before .before .before .above-zero .result) (c .before .before .percentage .result) (c .before .decrement .result .0)
+    falls u m (a .standing) e (loaded (a .s .now) .decrements) (a .target .0) (c .before .before .before .above-zero .result) (c .before .before .percentage .result) (c .before .decrement .result .0)
     (sym (ap above z) ∙ c .before .before .before .before .if1 .taken) (c .before .before .before .above-zero .ensures ∙ ap aboveZero z) (c .before .before .percentage .ensures) (c .before .decrement .ensures) (c .fall .ensures)
 
 returns-2 : tie.Need-returns-2
 returns-2 c u m e =
     let a = c .before .before .args in
-    stays u m (a .standing) e (loaded (a .s .now) .terms) (a .target .0) (sym (ap above (back (a .standing) (c .before .before .fits .standing .sfits))) ∙ c .if1 .left)
+    stays u m (a .standing) e (loaded (a .s .now) .decrements) (a .target .0) (sym (ap above (back (a .standing) (c .before .before .fits .standing .sfits))) ∙ c .if1 .left)
 
 pub next-price-spec : {M : Type 1} → statement M
 next-price-spec =

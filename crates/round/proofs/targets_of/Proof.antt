@@ -3,7 +3,7 @@ use mathlib.Core.Path.{_∙_, ap}
 use Prim.Native.Nat.{_-_}
 use native.Mathlib.Omega.{arith}
 use lib.ListN.{getD}
-use Rattle.rules.specs.Settings.{targetOf}
+use Rattle.rules.specs.Settings.{setup, targetOf}
 use Rattle.rules.specs.Layout.{loaded}
 use Rattle.rules.proofs.Lists.{list-at}
 use Rattle.rules.proofs.Fill.{Filled, none-filled, one-more, all-filled}
@@ -11,7 +11,7 @@ use Rattle.round.proofs.targets_of.Statement.{statement}
 use Rattle.round.proofs.targets_of.Tie as tie
 
 abbrev Inv-loop : tie.InvT-loop
-Inv-loop s all₀ p₀ all p = Filled (targetOf (loaded s .terms)) 8 p all
+Inv-loop s all₀ p₀ all p = Filled (targetOf (setup (loaded s))) 8 p all
 
 abbrev μ-loop : tie.MeasureT-loop
 μ-loop s all₀ p₀ all p = 8 - p
@@ -24,7 +24,7 @@ loop-again c = one-more _ (c .before .before .loop .inv) (omega arith) (c .targe
 
 returns : tie.Need-returns Inv-loop μ-loop
 returns c p h =
-    let t = targetOf (loaded (c .before .before .before .args .s .now) .terms) in
+    let t = targetOf (setup (loaded (c .before .before .before .args .s .now))) in
     ap (λ l. getD l p 0) (all-filled (c .before .loop .inv) (omega arith)) ∙ list-at t 0 8 p h
 
 pub targets-of-spec : {M : Type 1} → statement M

@@ -6,27 +6,15 @@ use Rattle.rules.proofs.Tests.{said, is-eqb}
 use Rattle.settings.proofs.bidder_within.Statement.{statement}
 use Rattle.settings.proofs.bidder_within.Tie as tie
 
-mul-x : tie.Need-mul-x
-mul-x c = search needs
-
-element-copy-out-x : tie.Need-element-copy-out-x
-element-copy-out-x c = search needs
-
-cast-if1 : tie.Need-cast-if1
-cast-if1 c = search needs
-
 returns : tie.Need-returns
 returns c =
     let a = c .before .before .before .args in
     rw (le-ltb _ _ (c .before .if1 .taken))
     (is-eqb _ (initialOf (a .t1) (a .b)) 0 (λ h. omega (arith, said)) (λ h e. omega (arith, said)))
 
-is-between16-requires : tie.Need-is-between16-requires
-is-between16-requires c κs = search needs
-
 returns-2 : tie.Need-returns-2
 returns-2 c = search (lt-ltb)
 
 pub bidder-within-spec : {M : Type 1} → statement M
 bidder-within-spec =
-    tie.close (tie.spec mul-x element-copy-out-x cast-if1 returns is-between16-requires returns-2)
+    tie.close (tie.spec (λ c. search needs) (λ c. search needs) (λ c. search needs) returns (λ c κs. search needs) returns-2)

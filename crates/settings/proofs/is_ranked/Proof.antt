@@ -10,21 +10,6 @@ use Rattle.settings.proofs.is_ranked.Tie as tie
 returns : tie.Need-returns
 returns c = search (eq-eqb)
 
-sub-before : tie.Need-sub-before
-sub-before c = search needs
-
-mul-before : tie.Need-mul-before
-mul-before c = search needs
-
-element-copy-out-before : tie.Need-element-copy-out-before
-element-copy-out-before c = search needs
-
-mul-x : tie.Need-mul-x
-mul-x c = search needs
-
-element-copy-out-x : tie.Need-element-copy-out-x
-element-copy-out-x c = search needs
-
 returns-2 : tie.Need-returns-2
 returns-2 c =
     let d = c .before .before .before .before in
@@ -37,9 +22,9 @@ is-ranked-spec =
     tie.close
     (tie.spec
     returns
-    sub-before
-    mul-before
-    element-copy-out-before
-    mul-x
-    element-copy-out-x
+    (λ c. search needs)
+    (λ c. search needs)
+    (λ c. search needs)
+    (λ c. search needs)
+    (λ c. search needs)
     returns-2)

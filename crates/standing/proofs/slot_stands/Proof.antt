@@ -4,16 +4,17 @@ use Rattle.standing.proofs.slot_stands.Statement.{statement}
 use Rattle.standing.proofs.slot_stands.Tie as tie
 
 returns : tie.Need-returns
-returns c = rw (← c .before .before .before .slot .ensures, no (c .before .before .has-filed .ensures) (c .before .if1 .taken), c .zero-from .ensures)
+returns c = rw (no (c .before .before .has-filed .ensures) (c .before .if1 .taken)) (c .zero-from .ensures)
 
 returns-2 : tie.Need-returns-2
 returns-2 c =
-    let d = c .before .before .before .before in
+    let d = c .before .before in
+    let e = d .before .before .before in
     rw (
-      ← d .before .before .slot .ensures,
-      yes (d .before .has-filed .ensures) (d .if1 .left),
-      c .before .before .before .bidders .ensures .0,
-      c .before .before .judge .ensures,
+      yes (e .before .has-filed .ensures) (e .if1 .left),
+      d .before .before .bidders .ensures .0,
+      d .judge .ensures,
+      d .before .slot .ensures,
       c .zero-from2 .ensures,
       c .before .products .ensures .0,
     )
@@ -24,8 +25,8 @@ slot-stands-spec =
     (tie.spec
     (λ c κs. search needs)
     (λ c κs. search needs)
-    (λ c κs. search needs)
     returns
+    (λ c κs. search needs)
     (λ c κs. search needs)
     (λ c κs. search needs)
     (λ c κs. search needs)

@@ -7,13 +7,13 @@ use Rattle.standing.proofs.slots_stand.Statement.{statement}
 use Rattle.standing.proofs.slots_stand.Tie as tie
 
 abbrev Inv-loop : tie.InvT-loop
-Inv-loop s ticks ok₀ b₀ ok b = Passed (slotStands (loaded s)) 32 b ok
+Inv-loop s held ticks ok₀ b₀ ok b = Passed (slotStands (loaded s)) 32 b ok
 
 abbrev μ-loop : tie.MeasureT-loop
-μ-loop s ticks ok₀ b₀ ok b = 32 - b
+μ-loop s held ticks ok₀ b₀ ok b = 32 - b
 
 slot-stands-requires : tie.Need-slot-stands-requires Inv-loop μ-loop
-slot-stands-requires c κs = record { lent = c .before .before .before .before .before .pre; bidder = c .before .loop-test .taken; ticks = c .before .before .before .ticks .ensures .1 }
+slot-stands-requires c κs = record { lent = c .before .before .before .before .before .pre .lent; bidder = c .before .loop-test .taken; ticks = c .before .before .before .ticks-by .ensures .1 }
 
 pub slots-stand-spec : {M : Type 1} → statement M
 slots-stand-spec =

@@ -7,14 +7,14 @@ use Rattle.standing.proofs.stands.Tie as tie
 
 returns : tie.Need-returns
 unfolding stands
-returns c = rw (no (limits-are (c .before .before .before .before .args .s .now) (c .before .within-limits .ensures) (c .before .before .terms .ensures)) (c .if1 .taken))
+returns c = rw (no (limits-are (c .before .before .before .before .args .s .now) (c .before .within-limits .ensures) (c .before .before .setup .ensures)) (c .if1 .taken))
 
 body-stands-requires : tie.Need-body-stands-requires
 body-stands-requires c κs =
     let d = c .before in
     let g = d .before .before .before .before in
     lent-is (g .args .s .now) (g .pre)
-    (yes (limits-are (g .args .s .now) (d .before .within-limits .ensures) (d .before .before .terms .ensures)) (d .if1 .left))
+    (yes (limits-are (g .args .s .now) (d .before .within-limits .ensures) (d .before .before .setup .ensures)) (d .if1 .left))
 
 returns-2 : tie.Need-returns-2
 unfolding stands
@@ -24,7 +24,7 @@ returns-2 c =
     rw (
       c .body-stands .ensures,
       c .before .round .ensures,
-      yes (limits-are s (d .before .within-limits .ensures) (d .before .before .terms .ensures)) (d .if1 .left),
+      yes (limits-are s (d .before .within-limits .ensures) (d .before .before .setup .ensures)) (d .if1 .left),
     )
 
 pub stands-spec : {M : Type 1} → statement M

@@ -10,7 +10,7 @@ head-requires c κs = zero-long (c .before .before .pre)
 returns : tie.Need-returns
 returns c =
     let c₁ = c .before .before in
-    let c₂ = c₁ .before .before .before .before in
+    let c₂ = c₁ .before .before .before .before .before in
     let c₃ = c₂ .before .before .before .before in
     let c₄ = c₃ .before .before .before .before in
     let d = c₄ .before .before .before in

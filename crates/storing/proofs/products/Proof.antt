@@ -1,9 +1,10 @@
 -- `storing::products` meets its contract. The parts passed are written. Assumes nothing.
-use Prim.Native.Nat.{ℕ, _-_}
+use Prim.Native.Nat.{_-_}
 use native.Mathlib.Omega.{arith}
-use Rattle.rules.specs.Settings.{startOf}
+use Rattle.rules.specs.Parts.{lane, noLane, laneAt}
+use Rattle.rules.specs.Settings.{targetOf, capOf, startOf}
 use Rattle.rules.specs.Calls.{opened}
-use Rattle.rules.specs.Layout.{productBytes, productWidth, productsFrom}
+use Rattle.rules.specs.Layout.{laneBytes, productWidth, productsFrom}
 use Rattle.rules.proofs.Lists.{list-at}
 use Rattle.storing.proofs.Each.{Passed, none-passed, next-passed, all-passed}
 use borrow.Author.Needs.{needs}
@@ -11,7 +12,7 @@ use Rattle.storing.proofs.products.Statement.{statement}
 use Rattle.storing.proofs.products.Tie as tie
 
 abbrev Inv-loop : tie.InvT-loop
-Inv-loop s₀ t p₀ s p = Passed (productBytes (opened t)) productsFrom productWidth 8 p s₀ s
+Inv-loop s₀ t p₀ s p = Passed (λ p. laneBytes (laneAt (opened t) p)) productsFrom productWidth 8 p s₀ s
 
 abbrev μ-loop : tie.MeasureT-loop
 μ-loop s₀ t p₀ s p = 8 - p
@@ -24,8 +25,9 @@ unfolding opened
 loop-again c =
     let d = c .before .before in
     let l = d .before .before .before .before in
+    let t = l .before .before .args .t2 in
     next-passed (l .loop .inv) (omega arith)
-    (rw (list-at {A = ℕ} (startOf (l .before .before .args .t2)) 0 8 (l .loop .p) (omega arith)) (d .product .ensures))
+    (rw (list-at (λ p. lane (targetOf t p) (capOf t p) (startOf t p) (startOf t p) (startOf t p)) noLane 8 (l .loop .p) (omega arith)) (d .product .ensures))
 
 returns : tie.Need-returns Inv-loop μ-loop
 returns c = all-passed (c .before .loop .inv) (omega arith)

@@ -1,7 +1,8 @@
 -- `storing::rows` meets its contract. The parts passed are written. Assumes nothing.
 use Prim.Native.Nat.{_-_}
 use native.Mathlib.Omega.{arith}
-use Rattle.rules.specs.Calls.{opened}
+use lib.ListN.{getD}
+use Rattle.rules.specs.Parts.{noRow}
 use Rattle.rules.specs.Layout.{rowBytes, rowWidth, rowsFrom}
 use Rattle.storing.proofs.Each.{Passed, none-passed, next-passed, all-passed}
 use borrow.Author.Needs.{needs}
@@ -9,16 +10,15 @@ use Rattle.storing.proofs.rows.Statement.{statement}
 use Rattle.storing.proofs.rows.Tie as tie
 
 abbrev Inv-loop : tie.InvT-loop
-Inv-loop s₀ t i₀ s i = Passed (rowBytes (opened t)) rowsFrom rowWidth 8 i s₀ s
+Inv-loop s₀ d i₀ s i = Passed (λ i. rowBytes (getD (d .row) i noRow)) rowsFrom rowWidth 8 i s₀ s
 
 abbrev μ-loop : tie.MeasureT-loop
-μ-loop s₀ t i₀ s i = 8 - i
+μ-loop s₀ d i₀ s i = 8 - i
 
 loop-holds : tie.Need-loop-holds Inv-loop μ-loop
 loop-holds c = none-passed
 
 loop-again : tie.Need-loop-again Inv-loop μ-loop
-unfolding opened
 loop-again c =
     let d = c .before .before in
     next-passed (d .before .before .before .before .loop .inv) (omega arith) (d .pair .ensures)

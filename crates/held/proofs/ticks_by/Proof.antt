@@ -9,14 +9,14 @@ use Rattle.rules.proofs.Fill.{Filled, all-filled, none-filled, one-more}
 use Rattle.rules.proofs.Lists.{list-at}
 use Rattle.held.proofs.Found.{one-is}
 use Rattle.held.specs.Ticks.{isOne}
-use Rattle.held.proofs.ticks.Statement.{statement}
-use Rattle.held.proofs.ticks.Tie as tie
+use Rattle.held.proofs.ticks_by.Statement.{statement}
+use Rattle.held.proofs.ticks_by.Tie as tie
 
 abbrev Inv-loop : tie.InvT-loop
-Inv-loop s ticks₀ p₀ ticks p = Filled (λ p. oneIf (ticked (loaded s) p)) 8 p ticks
+Inv-loop s held ticks₀ p₀ ticks p = Filled (λ p. oneIf (ticked (loaded s) p)) 8 p ticks
 
 abbrev μ-loop : tie.MeasureT-loop
-μ-loop s ticks₀ p₀ ticks p = 8 - p
+μ-loop s held ticks₀ p₀ ticks p = 8 - p
 
 loop-holds : tie.Need-loop-holds Inv-loop μ-loop
 loop-holds c = none-filled _ (search needs)
@@ -31,8 +31,8 @@ returns c =
     let v = c .before .loop .inv in
     (v .long, λ p l. ap (λ x. isOne x p) (all-filled v (c .loop-test .left)) ∙ ap (λ x. eqb x 1) (list-at _ 0 8 p l) ∙ one-is _)
 
-pub ticks-spec : {M : Type 1} → statement M
-ticks-spec =
+pub ticks-by-spec : {M : Type 1} → statement M
+ticks-by-spec =
     tie.close
     (tie.spec
     Inv-loop
