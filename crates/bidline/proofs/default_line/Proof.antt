@@ -18,5 +18,4 @@ returns-3 c =
     rw (not-false (s .tick) (c .before .before .before .if1 .left), lt-ltb 0 (s .r .going .0) (omega (arith, c .before .if2 .left)), c .amount .ensures)
 
 pub default-line-spec : {M : Type 1} → statement M
-default-line-spec =
-    tie.close (tie.spec returns (λ c κs. search needs) returns-2 (λ c κs. search needs) returns-3)
+default-line-spec = tie.close (tie.spec returns (λ c κs. search needs) returns-2 (λ c κs. search needs) returns-3)

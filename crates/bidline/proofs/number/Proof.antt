@@ -13,5 +13,4 @@ returns-2 : tie.Need-returns-2
 returns-2 c = (rw (← c .before .before .is-increased .ensures, c .if1 .left), search needs)
 
 pub number-spec : {M : Type 1} → statement M
-number-spec =
-    tie.close (tie.spec (λ c κs. search needs) (λ c. search needs) returns returns-2)
+number-spec = tie.close (tie.spec (λ c κs. search needs) (λ c. search needs) returns returns-2)

@@ -16,13 +16,5 @@ abbrev μ-loop : tie.MeasureT-loop
 pub once-each-spec : {M : Type 1} → statement M
 once-each-spec =
     tie.close
-    (tie.spec
-    Inv-loop
-    μ-loop
-    (λ c. none-passed)
-    (λ c. search needs)
-    (λ c. search needs)
-    (λ c. search needs)
-    (λ c. search needs)
-    (λ c. one-passed (c .before .loop .inv) (c .loop-test .taken) refl)
-    (λ c. all-passed (c .before .loop .inv) (c .loop-test .left)))
+    (tie.spec Inv-loop μ-loop (λ c. none-passed) (λ c. search needs) (λ c. search needs) (λ c. search needs) (λ c. search needs)
+    (λ c. one-passed (c .before .loop .inv) (c .loop-test .taken) refl) (λ c. all-passed (c .before .loop .inv) (c .loop-test .left)))

@@ -18,5 +18,4 @@ returns-2 c =
     rw (lt-ltb 0 (a .switches) (omega (arith, n .before .if1 .left)), c .before .once-each .ensures, e)
 
 pub priorities-fit-spec : {M : Type 1} → statement M
-priorities-fit-spec =
-    tie.close (tie.spec returns (λ c κs. search needs) (λ c κs. search needs) returns-2)
+priorities-fit-spec = tie.close (tie.spec returns (λ c κs. search needs) (λ c κs. search needs) returns-2)

@@ -11,4 +11,6 @@ returns c =
     (c .before .three .ensures ∙ before-at _ _ (c .before .before .before .before .pre .1))
 
 pub before-spec : {M : Type 1} → statement M
-before-spec = tie.close (tie.spec (λ c κs. search needs) (λ c. search needs) (λ c. search needs) (λ c κs. search needs) (λ c κs. search needs) returns)
+before-spec =
+    tie.close
+    (tie.spec (λ c κs. search needs) (λ c. search needs) (λ c. search needs) (λ c κs. search needs) (λ c κs. search needs) returns)

@@ -18,30 +18,6 @@ abbrev μ-loop : tie.MeasureT-loop
 loop-holds : tie.Need-loop-holds Inv-loop μ-loop
 loop-holds c = none-filled _ (search needs)
 
-start-requires : tie.Need-start-requires Inv-loop μ-loop
-start-requires c κs = search needs
-
-target-requires : tie.Need-target-requires Inv-loop μ-loop
-target-requires c κs = search needs
-
-cap-requires : tie.Need-cap-requires Inv-loop μ-loop
-cap-requires c κs = search needs
-
-amount-requires : tie.Need-amount-requires Inv-loop μ-loop
-amount-requires c κs = search needs
-
-mul-all : tie.Need-mul-all Inv-loop μ-loop
-mul-all c = search needs
-
-array-set-from-all : tie.Need-array-set-from-all Inv-loop μ-loop
-array-set-from-all c = search needs
-
-add-p : tie.Need-add-p Inv-loop μ-loop
-add-p c = search needs
-
-loop-less : tie.Need-loop-less Inv-loop μ-loop
-loop-less c = search needs
-
 loop-again : tie.Need-loop-again Inv-loop μ-loop
 loop-again c = one-more _ (c .before .before .before .before .before .loop .inv) (omega arith) (rw (c .before .before .target .ensures, c .before .cap .ensures, c .amount .ensures, c .before .before .before .start .ensures .1))
 
@@ -51,17 +27,5 @@ returns c = all-filled (c .before .loop .inv) (omega arith) ∙ items-are (c .be
 pub items-spec : {M : Type 1} → statement M
 items-spec =
     tie.close
-    (tie.spec
-    Inv-loop
-    μ-loop
-    loop-holds
-    start-requires
-    target-requires
-    cap-requires
-    amount-requires
-    mul-all
-    array-set-from-all
-    add-p
-    loop-less
-    loop-again
-    returns)
+    (tie.spec Inv-loop μ-loop loop-holds (λ c κs. search needs) (λ c κs. search needs) (λ c κs. search needs) (λ c κs. search needs)
+    (λ c. search needs) (λ c. search needs) (λ c. search needs) (λ c. search needs) loop-again returns)

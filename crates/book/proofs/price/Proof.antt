@@ -11,4 +11,6 @@ returns c =
     (c .before .three .ensures ∙ price-at _ _ (c .before .before .before .before .pre .1))
 
 pub price-spec : {M : Type 1} → statement M
-price-spec = tie.close (tie.spec (λ c κs. search needs) (λ c. search needs) (λ c. search needs) (λ c κs. search needs) (λ c κs. search needs) returns)
+price-spec =
+    tie.close
+    (tie.spec (λ c κs. search needs) (λ c. search needs) (λ c. search needs) (λ c κs. search needs) (λ c κs. search needs) returns)

@@ -10,4 +10,7 @@ returns c =
     (c .before .two .ensures ∙ percent-at _ _ h, c .two2 .ensures ∙ decrement-at _ _ h)
 
 pub row-spec : {M : Type 1} → statement M
-row-spec = tie.close (tie.spec (λ c. search needs) (λ c. search needs) (λ c κs. search needs) (λ c. search needs) (λ c. search needs) (λ c κs. search needs) returns)
+row-spec =
+    tie.close
+    (tie.spec (λ c. search needs) (λ c. search needs) (λ c κs. search needs) (λ c. search needs) (λ c. search needs) (λ c κs. search needs)
+    returns)

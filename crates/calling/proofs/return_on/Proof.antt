@@ -14,10 +14,4 @@ returns-2 c = returned-once _ _ (c .return-box2 .ensures .1)
 pub return-on-spec : {M : Type 1} → statement M
 return-on-spec =
     tie.close
-    (tie.spec
-    (λ c κs. search needs)
-    (λ c. search needs)
-    (λ c κs. search needs)
-    returns
-    (λ c κs. search needs)
-    returns-2)
+    (tie.spec (λ c κs. search needs) (λ c. search needs) (λ c κs. search needs) returns (λ c κs. search needs) returns-2)

@@ -17,10 +17,4 @@ returns-2 c = calculate-done _ _ _ (c .before .before .before .before .before .c
 pub calculate-spec : {M : Type 1} → statement M
 calculate-spec =
     tie.close
-    (tie.spec
-    (λ c κs. search needs)
-    (λ c. search needs)
-    returns
-    (λ c κs. may (c .before))
-    (λ c. search needs)
-    returns-2)
+    (tie.spec (λ c κs. search needs) (λ c. search needs) returns (λ c κs. may (c .before)) (λ c. search needs) returns-2)

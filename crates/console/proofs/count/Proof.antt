@@ -32,11 +32,5 @@ returns-2 c =
 pub count-spec : {M : Type 1} → statement M
 count-spec =
     tie.close
-    (tie.spec
-    (λ c κs. search needs)
-    returns
-    (λ c κs. stood c .long)
-    (λ c. search needs)
-    (λ c κs. stood (c .before) .long)
-    sub-still
+    (tie.spec (λ c κs. search needs) returns (λ c κs. stood c .long) (λ c. search needs) (λ c κs. stood (c .before) .long) sub-still
     returns-2)

@@ -25,10 +25,4 @@ returns-2 c = does _ _ _ _ _ (c .before .before .before .before .before .cutback
 pub cutback-spec : {M : Type 1} → statement M
 cutback-spec =
     tie.close
-    (tie.spec
-    (λ c κs. search needs)
-    (λ c. search needs)
-    returns
-    (λ c κs. may (c .before))
-    (λ c. search needs)
-    returns-2)
+    (tie.spec (λ c κs. search needs) (λ c. search needs) returns (λ c κs. may (c .before)) (λ c. search needs) returns-2)

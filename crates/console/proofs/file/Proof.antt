@@ -20,12 +20,5 @@ returns-3 c = card-filed (c .before .before .before .before .before .before .bef
 pub file-spec : {M : Type 1} → statement M
 file-spec =
     tie.close
-    (tie.spec
-    (λ c κs. search needs)
-    (λ c. search needs)
-    returns
-    (λ c κs. lent _ (stood (c .before)))
-    (λ c. search needs)
-    returns-2
-    (λ c. search needs)
-    returns-3)
+    (tie.spec (λ c κs. search needs) (λ c. search needs) returns (λ c κs. lent _ (stood (c .before))) (λ c. search needs) returns-2
+    (λ c. search needs) returns-3)

@@ -33,15 +33,7 @@ returns-4 c =
 pub open-spec : {M : Type 1} → statement M
 open-spec =
     tie.close
-    (tie.spec
-    returns
-    (λ c κs. search needs)
-    (λ c. search needs)
-    returns-2
-    (λ c κs. search needs)
-    (λ c. search needs)
-    returns-3
+    (tie.spec returns (λ c κs. search needs) (λ c. search needs) returns-2 (λ c κs. search needs) (λ c. search needs) returns-3
     (λ c κs. search needs)
     (λ c κs. zeros _ (search needs) (sym (c .before .before .before .before .before .is-zero .ensures) ∙ zero (c .before .before .before .before)))
-    (λ c. search needs)
-    returns-4)
+    (λ c. search needs) returns-4)

@@ -25,6 +25,4 @@ unfolding reportCall
 returns-2 c = answers-with _ _ _ reportRefused _ (c .before .before .report-number .ensures) (c .before .if1 .left) (c .report-on .ensures)
 
 pub report-spec : {M : Type 1} → statement M
-report-spec =
-    tie.close
-    (tie.spec (λ c κs. search needs) (λ c κs. search needs) returns report-on-requires returns-2)
+report-spec = tie.close (tie.spec (λ c κs. search needs) (λ c κs. search needs) returns report-on-requires returns-2)

@@ -20,6 +20,4 @@ unfolding resultCall
 returns-2 c = answers-with _ _ _ resultRefused _ (c .before .before .result-number .ensures) (c .before .if1 .left) (c .result-of .ensures)
 
 pub result-spec : {M : Type 1} → statement M
-result-spec =
-    tie.close
-    (tie.spec (λ c κs. search needs) (λ c κs. search needs) returns (λ c κs. lent _ (stood c)) returns-2)
+result-spec = tie.close (tie.spec (λ c κs. search needs) (λ c κs. search needs) returns (λ c κs. lent _ (stood c)) returns-2)

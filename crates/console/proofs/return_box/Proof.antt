@@ -6,14 +6,8 @@ use Rattle.console.proofs.return_box.Tie as tie
 returns : tie.Need-returns
 returns c = return-1 _ (search needs)
 
-clear-requires : tie.Need-clear-requires
-clear-requires c κs = search needs
-
-same-length : tie.Need-same-length
-same-length c = search needs
-
 returns-2 : tie.Need-returns-2
 returns-2 c = return-done _ (search needs) _ (c .before .before .clear .ensures)
 
 pub return-box-spec : {M : Type 1} → statement M
-return-box-spec = tie.close (tie.spec returns clear-requires same-length returns-2)
+return-box-spec = tie.close (tie.spec returns (λ c κs. search needs) (λ c. search needs) returns-2)

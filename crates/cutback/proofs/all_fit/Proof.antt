@@ -27,12 +27,5 @@ loop-again c = (search needs, rw add-one (cc))
 pub all-fit-spec : {M : Type 1} → statement M
 all-fit-spec =
     tie.close
-    (tie.spec
-    Inv-loop
-    μ-loop
-    loop-holds
-    (λ c κs. search needs)
-    (λ c. search needs)
-    (λ c. search needs)
-    loop-again
+    (tie.spec Inv-loop μ-loop loop-holds (λ c κs. search needs) (λ c. search needs) (λ c. search needs) loop-again
     (λ c. cc (le-antisymm (c .before .loop .inv .0) (c .loop-test .left))))

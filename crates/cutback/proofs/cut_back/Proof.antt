@@ -36,12 +36,5 @@ returns-2 c =
 pub cut-back-spec : {M : Type 1} → statement M
 cut-back-spec =
     tie.close
-    (tie.spec
-    reduce-requires
-    stops-requires
-    (λ c. search needs)
-    returns
-    (λ c κs. search needs)
-    opens-at-requires
-    (λ c. search needs)
+    (tie.spec reduce-requires stops-requires (λ c. search needs) returns (λ c κs. search needs) opens-at-requires (λ c. search needs)
     returns-2)

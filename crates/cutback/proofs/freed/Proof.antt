@@ -22,16 +22,7 @@ more-requires c κs =
 pub freed-spec : {M : Type 1} → statement M
 freed-spec =
     tie.close
-    (tie.spec
-    Inv-loop
-    μ-loop
-    (λ c. none-filled _ (search needs))
-    (λ c κs. search needs)
-    (λ c κs. search needs)
-    more-requires
-    (λ c. search needs)
-    (λ c. search needs)
-    (λ c. search needs)
-    (λ c. search needs)
+    (tie.spec Inv-loop μ-loop (λ c. none-filled _ (search needs)) (λ c κs. search needs) (λ c κs. search needs) more-requires
+    (λ c. search needs) (λ c. search needs) (λ c. search needs) (λ c. search needs)
     (λ c. one-more _ (c .before .before .before .before .loop .inv) (omega arith) cc)
     (λ c. all-filled (c .before .loop .inv) (omega arith)))

@@ -17,15 +17,6 @@ abbrev μ-loop : tie.MeasureT-loop
 pub starts-spec : {M : Type 1} → statement M
 starts-spec =
     tie.close
-    (tie.spec
-    Inv-loop
-    μ-loop
-    (λ c κs. search needs)
-    (λ c. none-filled _ (search needs))
-    (λ c κs. search needs)
-    (λ c. search needs)
-    (λ c. search needs)
-    (λ c. search needs)
-    (λ c. search needs)
-    (λ c. one-more _ (c .before .before .loop .inv) (omega arith) cc)
+    (tie.spec Inv-loop μ-loop (λ c κs. search needs) (λ c. none-filled _ (search needs)) (λ c κs. search needs) (λ c. search needs)
+    (λ c. search needs) (λ c. search needs) (λ c. search needs) (λ c. one-more _ (c .before .before .loop .inv) (omega arith) cc)
     (λ c. all-filled (c .before .loop .inv) (omega arith)))

@@ -18,15 +18,6 @@ abbrev μ-loop : tie.MeasureT-loop
 pub volume-spec : {M : Type 1} → statement M
 volume-spec =
     tie.close
-    (tie.spec
-    Inv-loop
-    μ-loop
-    (λ c. search needs)
-    (λ c. search needs)
-    (λ c. search needs)
-    (λ c. search needs)
-    (λ c. search needs)
-    (λ c. search needs)
-    (λ c. search needs)
-    (λ c. rw add-one (omega arith))
+    (tie.spec Inv-loop μ-loop (λ c. search needs) (λ c. search needs) (λ c. search needs) (λ c. search needs) (λ c. search needs)
+    (λ c. search needs) (λ c. search needs) (λ c. rw add-one (omega arith))
     (λ c. cc (le-antisymm (c .before .loop .inv .0) (c .loop-test .left))))

@@ -21,21 +21,12 @@ loop-holds : tie.Need-loop-holds Inv-loop μ-loop
 unfolding allUpTo
 loop-holds c = search needs
 
-is-drawn-requires : tie.Need-is-drawn-requires Inv-loop μ-loop
-is-drawn-requires c κs = search needs
-
 returns : tie.Need-returns Inv-loop μ-loop
 returns c =
     let l = c .before .before .before in
     let a = l .before .before .args in
     let h : ℕ → Bool = λ b. isAt (firstUpTo (λ i. eqb (drawn (a .order .now) i) b) (a .bidders)) in
     sym (not-all h (a .bidders) (l .loop .b) (search needs) (no (c .before .is-drawn .ensures) (c .if1 .taken)))
-
-add-b : tie.Need-add-b Inv-loop μ-loop
-add-b c = search needs
-
-loop-less : tie.Need-loop-less Inv-loop μ-loop
-loop-less c = search needs
 
 loop-again : tie.Need-loop-again Inv-loop μ-loop
 loop-again c =
@@ -47,13 +38,4 @@ returns-2 c = cc (le-antisymm (c .before .loop .inv .0) (c .loop-test .left))
 pub all-drawn-spec : {M : Type 1} → statement M
 all-drawn-spec =
     tie.close
-    (tie.spec
-    Inv-loop
-    μ-loop
-    loop-holds
-    is-drawn-requires
-    returns
-    add-b
-    loop-less
-    loop-again
-    returns-2)
+    (tie.spec Inv-loop μ-loop loop-holds (λ c κs. search needs) returns (λ c. search needs) (λ c. search needs) loop-again returns-2)

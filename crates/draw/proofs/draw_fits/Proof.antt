@@ -7,18 +7,11 @@ use Rattle.draw.proofs.draw_fits.Tie as tie
 returns : tie.Need-returns
 returns c = search (ne-eqb)
 
-entries-fit-requires : tie.Need-entries-fit-requires
-entries-fit-requires c κs = search needs
-
 returns-2 : tie.Need-returns-2
 returns-2 c = search (eq-eqb, no (c .before .entries-fit .ensures) (c .if2 .taken))
-
-all-drawn-requires : tie.Need-all-drawn-requires
-all-drawn-requires c κs = search needs
 
 returns-3 : tie.Need-returns-3
 returns-3 c = search (eq-eqb, yes (c .before .before .entries-fit .ensures) (c .before .if2 .left))
 
 pub draw-fits-spec : {M : Type 1} → statement M
-draw-fits-spec =
-    tie.close (tie.spec returns entries-fit-requires returns-2 all-drawn-requires returns-3)
+draw-fits-spec = tie.close (tie.spec returns (λ c κs. search needs) returns-2 (λ c κs. search needs) returns-3)

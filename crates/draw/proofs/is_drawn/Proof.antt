@@ -19,12 +19,6 @@ Inv-loop order bidders b i₀ i = (i ≤ bidders) × (firstUpTo (λ i. eqb (draw
 abbrev μ-loop : tie.MeasureT-loop
 μ-loop order bidders b i₀ i = bidders - i
 
-loop-holds : tie.Need-loop-holds Inv-loop μ-loop
-loop-holds c = search needs
-
-shared-slice-read-if1 : tie.Need-shared-slice-read-if1 Inv-loop μ-loop
-shared-slice-read-if1 c = search needs
-
 cast-if1 : tie.Need-cast-if1 Inv-loop μ-loop
 cast-if1 c = omega (arith, c .shared-slice-known .given (c .before .before .loop .i))
 
@@ -36,12 +30,6 @@ returns c =
     let h : ℕ → Bool = λ i. eqb (drawn (a .order .now) i) (a .b) in
     let e = first-here h i (l .loop .inv .1) (eq-eqb (drawn (a .order .now) i) (a .b) (omega arith)) in
     sym (ap isAt (first-stays h (suc i) i (a .bidders) e (search needs)))
-
-add-i : tie.Need-add-i Inv-loop μ-loop
-add-i c = search needs
-
-loop-less : tie.Need-loop-less Inv-loop μ-loop
-loop-less c = search needs
 
 loop-again : tie.Need-loop-again Inv-loop μ-loop
 loop-again c =
@@ -61,14 +49,5 @@ returns-2 c =
 pub is-drawn-spec : {M : Type 1} → statement M
 is-drawn-spec =
     tie.close
-    (tie.spec
-    Inv-loop
-    μ-loop
-    loop-holds
-    shared-slice-read-if1
-    cast-if1
-    returns
-    add-i
-    loop-less
-    loop-again
+    (tie.spec Inv-loop μ-loop (λ c. search needs) (λ c. search needs) cast-if1 returns (λ c. search needs) (λ c. search needs) loop-again
     returns-2)

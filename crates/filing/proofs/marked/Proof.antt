@@ -4,9 +4,6 @@ use borrow.Author.Needs.{needs}
 use Rattle.filing.proofs.marked.Statement.{statement}
 use Rattle.filing.proofs.marked.Tie as tie
 
-shl-one : tie.Need-shl-one
-shl-one c = search needs
-
 div-result : tie.Need-div-result
 div-result c = one-some (c .args .b) (c .pre)
 
@@ -34,13 +31,4 @@ returns c = is-marked (c .args .filed) (c .args .b) (c .fits .filed .fits) (c .p
 pub marked-spec : {M : Type 1} → statement M
 marked-spec =
     tie.close
-    (tie.spec
-    shl-one
-    div-result
-    mul-result
-    add-result
-    mul-result-2
-    rem-result
-    add-result-2
-    cast-result
-    returns)
+    (tie.spec (λ c. search needs) div-result mul-result add-result mul-result-2 rem-result add-result-2 cast-result returns)

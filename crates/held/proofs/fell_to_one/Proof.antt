@@ -9,5 +9,4 @@ returns : tie.Need-returns
 returns c = ap₂ _&&_ (c .before .before .ticked .ensures) (ap (λ x. eqb x 1) (c .amount .ensures ∙ c .before .price .ensures .1))
 
 pub fell-to-one-spec : {M : Type 1} → statement M
-fell-to-one-spec =
-    tie.close (tie.spec (λ c κs. search needs) (λ c κs. search needs) (λ c κs. search needs) returns)
+fell-to-one-spec = tie.close (tie.spec (λ c κs. search needs) (λ c κs. search needs) (λ c κs. search needs) returns)

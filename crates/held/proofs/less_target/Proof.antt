@@ -21,11 +21,4 @@ returns c =
     (rw (less x y (omega arith) (omega arith)) (less-back x y (omega arith) (omega arith) ∙ e), rw (← e) (le-trans (above-le x y) (c .before .before .pre .1 .1)))
 
 pub less-target-spec : {M : Type 1} → statement M
-less-target-spec =
-    tie.close
-    (tie.spec
-    (λ c. search needs)
-    (λ c κs. search needs)
-    (λ c. search needs)
-    sub-result
-    returns)
+less-target-spec = tie.close (tie.spec (λ c. search needs) (λ c κs. search needs) (λ c. search needs) sub-result returns)

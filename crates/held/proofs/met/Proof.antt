@@ -14,5 +14,4 @@ returns c =
     rw (s .ensures .0) (zero-is (heldOn l (a .p)) (targetOf (setup l) (a .p)) (rw (s .ensures .0) at (s .ok)))
 
 pub met-spec : {M : Type 1} → statement M
-met-spec =
-    tie.close (tie.spec (λ c κs. search needs) returns)
+met-spec = tie.close (tie.spec (λ c κs. search needs) returns)

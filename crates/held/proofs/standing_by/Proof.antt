@@ -17,5 +17,4 @@ returns c =
     (back (z .result) (z .ok) ∙ e .0, e .1)
 
 pub standing-by-spec : {M : Type 1} → statement M
-standing-by-spec =
-    tie.close (tie.spec (λ c. search needs) (λ c. search needs) less-target-requires returns)
+standing-by-spec = tie.close (tie.spec (λ c. search needs) (λ c. search needs) less-target-requires returns)

@@ -9,5 +9,4 @@ returns : tie.Need-returns
 returns c = or-is (c .before .at-bottom .ensures) (ap (λ x. eqb x 4095) (c .round .ensures))
 
 pub stops-by-spec : {M : Type 1} → statement M
-stops-by-spec =
-    tie.close (tie.spec (λ c κs. search needs) (λ c κs. search needs) returns)
+stops-by-spec = tie.close (tie.spec (λ c κs. search needs) (λ c κs. search needs) returns)

@@ -9,5 +9,4 @@ returns : tie.Need-returns
 returns c = ap above (back _ (c .standing-by .ok) ∙ c .standing-by .ensures .0)
 
 pub ticked-spec : {M : Type 1} → statement M
-ticked-spec =
-    tie.close (tie.spec (λ c κs. search needs) returns)
+ticked-spec = tie.close (tie.spec (λ c κs. search needs) returns)

@@ -53,17 +53,5 @@ returns-2 c =
 pub cancel-at-spec : {M : Type 1} → statement M
 cancel-at-spec =
     tie.close
-    (tie.spec
-    returns
-    (λ c κs. search needs)
-    cancel-some-requires
-    (λ c κs. search needs)
-    (λ c κs. search needs)
-    (λ c. search needs)
-    (λ c. search needs)
-    (λ c. search needs)
-    (λ c. search needs)
-    (λ c. search needs)
-    (λ c. search needs)
-    (λ c. search needs)
-    returns-2)
+    (tie.spec returns (λ c κs. search needs) cancel-some-requires (λ c κs. search needs) (λ c κs. search needs) (λ c. search needs)
+    (λ c. search needs) (λ c. search needs) (λ c. search needs) (λ c. search needs) (λ c. search needs) (λ c. search needs) returns-2)

@@ -33,16 +33,5 @@ returns c =
 pub keep-at-spec : {M : Type 1} → statement M
 keep-at-spec =
     tie.close
-    (tie.spec
-    (λ c κs. search needs)
-    keep-one-requires
-    (λ c κs. search needs)
-    (λ c κs. search needs)
-    (λ c. search needs)
-    (λ c. search needs)
-    (λ c. search needs)
-    (λ c. search needs)
-    (λ c. search needs)
-    (λ c. search needs)
-    (λ c. search needs)
-    returns)
+    (tie.spec (λ c κs. search needs) keep-one-requires (λ c κs. search needs) (λ c κs. search needs) (λ c. search needs)
+    (λ c. search needs) (λ c. search needs) (λ c. search needs) (λ c. search needs) (λ c. search needs) (λ c. search needs) returns)

@@ -28,12 +28,5 @@ returns-4 c =
 pub calculate-number-spec : {M : Type 1} → statement M
 calculate-number-spec =
     tie.close
-    (tie.spec
-    (λ c κs. search needs)
-    returns
-    (λ c κs. stood c .long)
-    returns-2
-    (λ c κs. stood (c .before .before) .long)
-    (λ c κs. search needs)
-    returns-3
-    returns-4)
+    (tie.spec (λ c κs. search needs) returns (λ c κs. stood c .long) returns-2 (λ c κs. stood (c .before .before) .long)
+    (λ c κs. search needs) returns-3 returns-4)

@@ -19,5 +19,4 @@ returns-3 : tie.Need-returns-3
 returns-3 c = said _ (stood (c .before .before)) 3 openNumberOf 3 (rw (ne-eqb _ 1 (λ e. c .if2 .left (c .before .phase .ensures ∙ e))))
 
 pub count-number-spec : {M : Type 1} → statement M
-count-number-spec =
-    tie.close (tie.spec (λ c κs. search needs) returns (λ c κs. stood c .long) returns-2 returns-3)
+count-number-spec = tie.close (tie.spec (λ c κs. search needs) returns (λ c κs. stood c .long) returns-2 returns-3)

@@ -34,11 +34,5 @@ returns-4 c =
 pub cutback-number-spec : {M : Type 1} → statement M
 cutback-number-spec =
     tie.close
-    (tie.spec
-    (λ c κs. search needs)
-    returns
-    (λ c κs. stood c .long)
-    returns-2
-    (λ c κs. lent _ (stood (c .before .before)))
-    returns-3
+    (tie.spec (λ c κs. search needs) returns (λ c κs. stood c .long) returns-2 (λ c κs. lent _ (stood (c .before .before))) returns-3
     returns-4)

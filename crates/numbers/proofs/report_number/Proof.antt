@@ -41,13 +41,5 @@ returns-5 c =
 pub report-number-spec : {M : Type 1} → statement M
 report-number-spec =
     tie.close
-    (tie.spec
-    (λ c κs. search needs)
-    returns
-    (λ c κs. stood c .long)
-    returns-2
-    (λ c κs. stood (c .before .before) .long)
-    returns-3
-    (λ c κs. stood (c .before .before .before .before) .long)
-    returns-4
-    returns-5)
+    (tie.spec (λ c κs. search needs) returns (λ c κs. stood c .long) returns-2 (λ c κs. stood (c .before .before) .long) returns-3
+    (λ c κs. stood (c .before .before .before .before) .long) returns-4 returns-5)

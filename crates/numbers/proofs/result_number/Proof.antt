@@ -22,5 +22,4 @@ returns-4 : tie.Need-returns-4
 returns-4 c = said _ (stood (c .before .before)) 16 closedNumber 16 (rw (ne-eqb _ 2 (λ e. c .if3 .left (c .before .phase .ensures ∙ e))))
 
 pub result-number-spec : {M : Type 1} → statement M
-result-number-spec =
-    tie.close (tie.spec (λ c κs. search needs) returns returns-2 (λ c κs. stood c .long) returns-3 returns-4)
+result-number-spec = tie.close (tie.spec (λ c κs. search needs) returns returns-2 (λ c κs. stood c .long) returns-3 returns-4)

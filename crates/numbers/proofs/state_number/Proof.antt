@@ -23,6 +23,4 @@ returns-4 c =
     (sym (c .before .stands .ensures) ∙ c .if3 .left)
 
 pub state-number-spec : {M : Type 1} → statement M
-state-number-spec =
-    tie.close
-    (tie.spec returns (λ c κs. search needs) returns-2 (λ c κs. search needs) returns-3 returns-4)
+state-number-spec = tie.close (tie.spec returns (λ c κs. search needs) returns-2 (λ c κs. search needs) returns-3 returns-4)

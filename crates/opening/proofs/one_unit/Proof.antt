@@ -27,20 +27,11 @@ loop-holds : tie.Need-loop-holds Inv-loop μ-loop
 unfolding allUpTo
 loop-holds c = search needs
 
-unit-fits-requires : tie.Need-unit-fits-requires Inv-loop μ-loop
-unit-fits-requires c κs = search needs
-
 returns : tie.Need-returns Inv-loop μ-loop
 returns c =
     let l = c .before .before .before in
     let s = l .before .args .s in
     sym (not-all (inOneUnit s) 8 (l .loop .p) (search needs) (no (c .before .unit-fits .ensures) (c .if1 .taken)))
-
-add-p : tie.Need-add-p Inv-loop μ-loop
-add-p c = search needs
-
-loop-less : tie.Need-loop-less Inv-loop μ-loop
-loop-less c = search needs
 
 loop-again : tie.Need-loop-again Inv-loop μ-loop
 loop-again c =
@@ -52,13 +43,4 @@ returns-2 c = cc (le-antisymm (c .before .loop .inv .0) (c .loop-test .left))
 pub one-unit-spec : {M : Type 1} → statement M
 one-unit-spec =
     tie.close
-    (tie.spec
-    Inv-loop
-    μ-loop
-    loop-holds
-    unit-fits-requires
-    returns
-    add-p
-    loop-less
-    loop-again
-    returns-2)
+    (tie.spec Inv-loop μ-loop loop-holds (λ c κs. search needs) returns (λ c. search needs) (λ c. search needs) loop-again returns-2)

@@ -43,11 +43,4 @@ returns-3 c =
 pub deem-at-spec : {M : Type 1} → statement M
 deem-at-spec =
     tie.close
-    (tie.spec
-    returns
-    (λ c κs. search needs)
-    returns-2
-    (λ c κs. search needs)
-    deem-requires
-    (λ c κs. search needs)
-    returns-3)
+    (tie.spec returns (λ c κs. search needs) returns-2 (λ c κs. search needs) deem-requires (λ c κs. search needs) returns-3)

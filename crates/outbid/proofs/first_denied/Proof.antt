@@ -54,17 +54,5 @@ returns-3 c = cc (le-antisymm (c .before .loop .inv .0) (c .loop-test .left))
 pub first-denied-spec : {M : Type 1} → statement M
 first-denied-spec =
     tie.close
-    (tie.spec
-    Inv-loop
-    μ-loop
-    returns
-    (λ c. search needs)
-    (λ c κs. search needs)
-    (λ c. search needs)
-    (λ c. search needs)
-    (λ c κs. search needs)
-    returns-2
-    (λ c. search needs)
-    (λ c. search needs)
-    loop-again
-    returns-3)
+    (tie.spec Inv-loop μ-loop returns (λ c. search needs) (λ c κs. search needs) (λ c. search needs) (λ c. search needs)
+    (λ c κs. search needs) returns-2 (λ c. search needs) (λ c. search needs) loop-again returns-3)

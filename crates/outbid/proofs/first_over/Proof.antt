@@ -54,20 +54,6 @@ returns-2 c = cc (le-antisymm (c .before .loop .inv .0) (c .loop-test .left))
 pub first-over-spec : {M : Type 1} → statement M
 first-over-spec =
     tie.close
-    (tie.spec
-    Inv-loop
-    μ-loop
-    loop-holds
-    (λ c. search needs)
-    (λ c. search needs)
-    (λ c. search needs)
-    (λ c. search needs)
-    (λ c. search needs)
-    (λ c. search needs)
-    (λ c. search needs)
-    is-over-requires
-    returns
-    (λ c. search needs)
-    (λ c. search needs)
-    loop-again
+    (tie.spec Inv-loop μ-loop loop-holds (λ c. search needs) (λ c. search needs) (λ c. search needs) (λ c. search needs)
+    (λ c. search needs) (λ c. search needs) (λ c. search needs) is-over-requires returns (λ c. search needs) (λ c. search needs) loop-again
     returns-2)

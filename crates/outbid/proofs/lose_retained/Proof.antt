@@ -62,16 +62,5 @@ returns-2 c =
 pub lose-retained-spec : {M : Type 1} → statement M
 lose-retained-spec =
     tie.close
-    (tie.spec
-    (λ c κs. search needs)
-    (λ c. search needs)
-    (λ c. search needs)
-    (λ c κs. search needs)
-    returns
-    bidder-at-requires
-    (λ c. search needs)
-    (λ c. search needs)
-    (λ c κs. search needs)
-    outbid-withdrawal-requires
-    (λ c κs. search needs)
-    returns-2)
+    (tie.spec (λ c κs. search needs) (λ c. search needs) (λ c. search needs) (λ c κs. search needs) returns bidder-at-requires
+    (λ c. search needs) (λ c. search needs) (λ c κs. search needs) outbid-withdrawal-requires (λ c κs. search needs) returns-2)

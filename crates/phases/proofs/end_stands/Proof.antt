@@ -12,10 +12,4 @@ returns-2 c = rw (← c .before .before .before .phase .ensures, ne-eqb _ _ (c .
 pub end-stands-spec : {M : Type 1} → statement M
 end-stands-spec =
     tie.close
-    (tie.spec
-    (λ c κs. search needs)
-    (λ c κs. search needs)
-    (λ c κs. search needs)
-    returns
-    (λ c κs. search needs)
-    returns-2)
+    (tie.spec (λ c κs. search needs) (λ c κs. search needs) (λ c κs. search needs) returns (λ c κs. search needs) returns-2)

@@ -21,13 +21,5 @@ loop-again c = one-passed (c .before .before .before .before .before .loop .inv)
 pub free-is-initial-spec : {M : Type 1} → statement M
 free-is-initial-spec =
     tie.close
-    (tie.spec
-    Inv-loop
-    μ-loop
-    (λ c. none-passed)
-    (λ c κs. search needs)
-    (λ c κs. search needs)
-    (λ c. search needs)
-    (λ c. search needs)
-    loop-again
-    (λ c. all-passed (c .before .loop .inv) (c .loop-test .left)))
+    (tie.spec Inv-loop μ-loop (λ c. none-passed) (λ c κs. search needs) (λ c κs. search needs) (λ c. search needs) (λ c. search needs)
+    loop-again (λ c. all-passed (c .before .loop .inv) (c .loop-test .left)))

@@ -20,13 +20,5 @@ loop-again c = one-passed (c .before .before .before .loop .inv) (c .before .bef
 pub no-records-spec : {M : Type 1} → statement M
 no-records-spec =
     tie.close
-    (tie.spec
-    Inv-loop
-    μ-loop
-    (λ c. none-passed)
-    (λ c κs. search needs)
-    (λ c κs. search needs)
-    (λ c. search needs)
-    (λ c. search needs)
-    loop-again
-    (λ c. all-passed (c .before .loop .inv) (c .loop-test .left)))
+    (tie.spec Inv-loop μ-loop (λ c. none-passed) (λ c κs. search needs) (λ c κs. search needs) (λ c. search needs) (λ c. search needs)
+    loop-again (λ c. all-passed (c .before .loop .inv) (c .loop-test .left)))

@@ -25,14 +25,5 @@ loop-again c =
 pub nothing-kept-spec : {M : Type 1} → statement M
 nothing-kept-spec =
     tie.close
-    (tie.spec
-    Inv-loop
-    μ-loop
-    (λ c κs. search needs)
-    (λ c. none-passed)
-    (λ c. search needs)
-    (λ c. search needs)
-    (λ c. search needs)
-    (λ c. search needs)
-    loop-again
-    (λ c. all-passed (c .before .loop .inv) (omega arith)))
+    (tie.spec Inv-loop μ-loop (λ c κs. search needs) (λ c. none-passed) (λ c. search needs) (λ c. search needs) (λ c. search needs)
+    (λ c. search needs) loop-again (λ c. all-passed (c .before .loop .inv) (omega arith)))

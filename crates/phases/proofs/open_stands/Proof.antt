@@ -21,11 +21,4 @@ returns-3 c = rw (← c .before .before .before .round .ensures, ne-eqb _ _ (c .
 pub open-stands-spec : {M : Type 1} → statement M
 open-stands-spec =
     tie.close
-    (tie.spec
-    (λ c κs. search needs)
-    (λ c κs. search needs)
-    returns
-    (λ c κs. search needs)
-    (λ c κs. search needs)
-    returns-2
-    returns-3)
+    (tie.spec (λ c κs. search needs) (λ c κs. search needs) returns (λ c κs. search needs) (λ c κs. search needs) returns-2 returns-3)

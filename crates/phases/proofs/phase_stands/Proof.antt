@@ -11,5 +11,4 @@ returns-2 : tie.Need-returns-2
 returns-2 c = rw (ne-eqb _ _ (λ e. c .before .if1 .left (c .before .before .phase .ensures ∙ e))) (c .end-stands .ensures)
 
 pub phase-stands-spec : {M : Type 1} → statement M
-phase-stands-spec =
-    tie.close (tie.spec (λ c κs. search needs) (λ c κs. search needs) returns (λ c κs. search needs) returns-2)
+phase-stands-spec = tie.close (tie.spec (λ c κs. search needs) (λ c κs. search needs) returns (λ c κs. search needs) returns-2)

@@ -18,12 +18,6 @@ abbrev μ-loop : tie.MeasureT-loop
 pub prices-at-start-spec : {M : Type 1} → statement M
 prices-at-start-spec =
     tie.close
-    (tie.spec
-    Inv-loop
-    μ-loop
-    (λ c. none-passed)
-    (λ c κs. search needs)
-    (λ c. search needs)
-    (λ c. search needs)
+    (tie.spec Inv-loop μ-loop (λ c. none-passed) (λ c κs. search needs) (λ c. search needs) (λ c. search needs)
     (λ c. one-passed (c .before .before .loop .inv) (c .before .loop-test .taken) (c .at-start .ensures))
     (λ c. all-passed (c .before .loop .inv) (c .loop-test .left)))

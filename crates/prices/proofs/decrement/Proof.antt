@@ -15,9 +15,6 @@ Inv-loop s percent n found₀ i₀ found i = (i ≤ n) × (found .0 ≡ decremen
 abbrev μ-loop : tie.MeasureT-loop
 μ-loop s percent n found₀ i₀ found i = n - i
 
-loop-holds : tie.Need-loop-holds Inv-loop μ-loop
-loop-holds c = search needs
-
 loop-again : tie.Need-loop-again Inv-loop μ-loop
 loop-again c =
     let r = c .before .row .ensures in
@@ -30,14 +27,5 @@ returns c = c .before .loop .inv .1 ∙ ap (decrementUpTo _ _) (le-antisymm (c .
 pub decrement-spec : {M : Type 1} → statement M
 decrement-spec =
     tie.close
-    (tie.spec
-    Inv-loop
-    μ-loop
-    (λ c κs. search needs)
-    loop-holds
-    (λ c κs. search needs)
-    (λ c κs. search needs)
-    (λ c. search needs)
-    (λ c. search needs)
-    loop-again
-    returns)
+    (tie.spec Inv-loop μ-loop (λ c κs. search needs) (λ c. search needs) (λ c κs. search needs) (λ c κs. search needs) (λ c. search needs)
+    (λ c. search needs) loop-again returns)

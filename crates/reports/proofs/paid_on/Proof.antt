@@ -25,5 +25,4 @@ returns-2 c =
     rw (ne-eqb m 0 (λ z. c .if1 .left (d .amount .ensures ∙ amount-of (a .terms .unit) m (d .before .highest .ensures) ∙ z))) (d .before .highest .ensures)
 
 pub paid-on-spec : {M : Type 1} → statement M
-paid-on-spec =
-    tie.close (tie.spec (λ c κs. search needs) (λ c κs. search needs) (λ c κs. search needs) returns returns-2)
+paid-on-spec = tie.close (tie.spec (λ c κs. search needs) (λ c κs. search needs) (λ c κs. search needs) returns returns-2)

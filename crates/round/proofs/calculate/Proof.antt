@@ -30,16 +30,7 @@ returns c = calculates (c .before .before .before .before .before .before .befor
 pub calculate-spec : {M : Type 1} → statement M
 calculate-spec =
     tie.close
-    (tie.spec
-    (λ c κs. search needs)
-    (λ c κs. search needs)
-    (λ c κs. search needs)
-    (λ c κs. search needs)
-    (λ c κs. search needs)
-    keep-all-requires
-    (λ c κs. search needs)
-    outbid-all-requires
+    (tie.spec (λ c κs. search needs) (λ c κs. search needs) (λ c κs. search needs) (λ c κs. search needs) (λ c κs. search needs)
+    keep-all-requires (λ c κs. search needs) outbid-all-requires
     (λ c κs. c .before .before .before .before .before .before .before .before .before .before .before .before .before .before .before .before .before .before .before .before .before .before .before .before .before .before .before .before .pre .long)
-    settle-requires
-    (λ c. search needs)
-    returns)
+    settle-requires (λ c. search needs) returns)

@@ -20,9 +20,6 @@ returns-2 c =
     let h : 1024 < a .at + length (a .w .now) = omega arith in
     rw (lt-leb _ _ h) (refl, refl)
 
-copy-in-requires : tie.Need-copy-in-requires
-copy-in-requires c κs = search needs
-
 returns-3 : tie.Need-returns-3
 returns-3 c =
     let a = c .before .before .before .before .before .args in
@@ -30,4 +27,4 @@ returns-3 c =
     rw (le-leb _ _ h) (c .copy-in .ensures)
 
 pub put-spec : {M : Type 1} → statement M
-put-spec = tie.close (tie.spec returns returns-2 copy-in-requires returns-3)
+put-spec = tie.close (tie.spec returns returns-2 (λ c κs. search needs) returns-3)

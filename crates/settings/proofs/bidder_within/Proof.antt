@@ -17,4 +17,5 @@ returns-2 c = search (lt-ltb)
 
 pub bidder-within-spec : {M : Type 1} → statement M
 bidder-within-spec =
-    tie.close (tie.spec (λ c. search needs) (λ c. search needs) (λ c. search needs) returns (λ c κs. search needs) returns-2)
+    tie.close
+    (tie.spec (λ c. search needs) (λ c. search needs) (λ c. search needs) returns (λ c κs. search needs) returns-2)

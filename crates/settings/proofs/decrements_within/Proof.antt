@@ -25,13 +25,5 @@ loop-again c = (search needs, rw add-one (cc))
 pub decrements-within-spec : {M : Type 1} → statement M
 decrements-within-spec =
     tie.close
-    (tie.spec
-    Inv-loop
-    μ-loop
-    loop-holds
-    (λ c κs. search needs)
-    (λ c. search needs)
-    (λ c. search needs)
-    loop-again
-    (λ c κs. search needs)
+    (tie.spec Inv-loop μ-loop loop-holds (λ c κs. search needs) (λ c. search needs) (λ c. search needs) loop-again (λ c κs. search needs)
     (λ c. cc (le-antisymm (c .before .before .loop .inv .0) (c .before .loop-test .left))))

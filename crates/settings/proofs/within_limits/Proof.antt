@@ -18,11 +18,5 @@ returns-2 c =
 pub within-limits-spec : {M : Type 1} → statement M
 within-limits-spec =
     tie.close
-    (tie.spec
-    (λ c κs. search needs)
-    returns
-    (λ c κs. search needs)
-    statewide-within-requires
-    (λ c κs. search needs)
-    (λ c κs. search needs)
+    (tie.spec (λ c κs. search needs) returns (λ c κs. search needs) statewide-within-requires (λ c κs. search needs) (λ c κs. search needs)
     returns-2)

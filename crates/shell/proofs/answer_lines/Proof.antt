@@ -14,52 +14,13 @@ abbrev μ-loop : tie.MeasureT-loop
 loop-holds : tie.Need-loop-holds Inv-loop μ-loop
 loop-holds c = (search needs, stays _)
 
-next-end-requires : tie.Need-next-end-requires Inv-loop μ-loop
-next-end-requires c κs = search needs
-
-returns : tie.Need-returns Inv-loop μ-loop
-returns c = search needs
-
-sub-answer-unless : tie.Need-sub-answer-unless Inv-loop μ-loop
-sub-answer-unless c = search needs
-
-part-answer-unless-start : tie.Need-part-answer-unless-start Inv-loop μ-loop
-part-answer-unless-start c = search needs
-
-part-answer-unless-end : tie.Need-part-answer-unless-end Inv-loop μ-loop
-part-answer-unless-end c = search needs
-
-answer-unless-requires : tie.Need-answer-unless-requires Inv-loop μ-loop
-answer-unless-requires c κs = search needs
-
-add-start : tie.Need-add-start Inv-loop μ-loop
-add-start c = search needs
-
-loop-less : tie.Need-loop-less Inv-loop μ-loop
-loop-less c = search needs
-
 loop-again : tie.Need-loop-again Inv-loop μ-loop
 loop-again c =
     let l = c .before .before .before .before .before .before in
     (search needs, onward _ _ _ (l .loop .inv .1) (once _ _ (c .answer-unless .ensures)))
 
-returns-2 : tie.Need-returns-2 Inv-loop μ-loop
-returns-2 c = search needs
-
 pub answer-lines-spec : {M : Type 1} → statement M
 answer-lines-spec =
     tie.close
-    (tie.spec
-    Inv-loop
-    μ-loop
-    loop-holds
-    next-end-requires
-    returns
-    sub-answer-unless
-    part-answer-unless-start
-    part-answer-unless-end
-    answer-unless-requires
-    add-start
-    loop-less
-    loop-again
-    returns-2)
+    (tie.spec Inv-loop μ-loop loop-holds (λ c κs. search needs) (λ c. search needs) (λ c. search needs) (λ c. search needs)
+    (λ c. search needs) (λ c κs. search needs) (λ c. search needs) (λ c. search needs) loop-again (λ c. search needs))

@@ -4,14 +4,8 @@ use borrow.Author.Needs.{needs}
 use Rattle.shell.proofs.answer_unless.Statement.{statement}
 use Rattle.shell.proofs.answer_unless.Tie as tie
 
-answer-requires : tie.Need-answer-requires
-answer-requires c κs = search needs
-
-returns : tie.Need-returns
-returns c = search needs
-
 returns-2 : tie.Need-returns-2
 returns-2 c = inl refl
 
 pub answer-unless-spec : {M : Type 1} → statement M
-answer-unless-spec = tie.close (tie.spec answer-requires returns returns-2)
+answer-unless-spec = tie.close (tie.spec (λ c κs. search needs) (λ c. search needs) returns-2)

@@ -32,10 +32,4 @@ returns c =
 pub body-stands-spec : {M : Type 1} → statement M
 body-stands-spec =
     tie.close
-    (tie.spec
-    (λ c κs. search needs)
-    products-stand-requires
-    (λ c κs. search needs)
-    slots-stand-requires
-    phase-stands-requires
-    returns)
+    (tie.spec (λ c κs. search needs) products-stand-requires (λ c κs. search needs) slots-stand-requires phase-stands-requires returns)

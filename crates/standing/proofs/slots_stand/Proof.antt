@@ -18,13 +18,6 @@ slot-stands-requires c κs = record { lent = c .before .before .before .before .
 pub slots-stand-spec : {M : Type 1} → statement M
 slots-stand-spec =
     tie.close
-    (tie.spec
-    Inv-loop
-    μ-loop
-    (λ c κs. search needs)
-    (λ c. none-passed)
-    slot-stands-requires
-    (λ c. search needs)
-    (λ c. search needs)
+    (tie.spec Inv-loop μ-loop (λ c κs. search needs) (λ c. none-passed) slot-stands-requires (λ c. search needs) (λ c. search needs)
     (λ c. one-passed (c .before .before .before .loop .inv) (c .before .before .loop-test .taken) (c .slot-stands .ensures))
     (λ c. all-passed (c .before .loop .inv) (c .loop-test .left)))

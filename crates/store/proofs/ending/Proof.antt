@@ -6,20 +6,8 @@ use Rattle.store.specs.Store.{dotNew}
 use Rattle.store.proofs.ending.Statement.{statement}
 use Rattle.store.proofs.ending.Tie as tie
 
-returns : tie.Need-returns
-returns c = search needs
-
-returns-2 : tie.Need-returns-2
-returns-2 c = search needs
-
-returns-3 : tie.Need-returns-3
-returns-3 c = search needs
-
-returns-4 : tie.Need-returns-4
-returns-4 c = search needs
-
 returns-5 : tie.Need-returns-5
 returns-5 c = sym (List·getD-eq-default dotNew 0 {n = c .before .before .before .before .args .k} (omega arith))
 
 pub ending-spec : {M : Type 1} → statement M
-ending-spec = tie.close (tie.spec returns returns-2 returns-3 returns-4 returns-5)
+ending-spec = tie.close (tie.spec (λ c. search needs) (λ c. search needs) (λ c. search needs) (λ c. search needs) returns-5)

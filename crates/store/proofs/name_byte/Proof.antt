@@ -4,21 +4,11 @@ use borrow.Author.Needs.{needs}
 use Rattle.store.proofs.name_byte.Statement.{statement}
 use Rattle.store.proofs.name_byte.Tie as tie
 
-shared-slice-read-result : tie.Need-shared-slice-read-result
-shared-slice-read-result c = search needs
-
 returns : tie.Need-returns
 returns c = let a = c .before .before .before .args in name-front (a .path .now) (a .i) (c .before .if1 .taken)
-
-sub-ending : tie.Need-sub-ending
-sub-ending c = search needs
-
-ending-requires : tie.Need-ending-requires
-ending-requires c κs = search needs
 
 returns-2 : tie.Need-returns-2
 returns-2 c = let a = c .before .before .before .args in c .ending .ensures ∙ name-back (a .path .now) (a .i) (c .before .if1 .left)
 
 pub name-byte-spec : {M : Type 1} → statement M
-name-byte-spec =
-    tie.close (tie.spec shared-slice-read-result returns sub-ending ending-requires returns-2)
+name-byte-spec = tie.close (tie.spec (λ c. search needs) returns (λ c. search needs) (λ c κs. search needs) returns-2)

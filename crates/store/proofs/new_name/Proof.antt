@@ -18,26 +18,8 @@ abbrev μ-loop : tie.MeasureT-loop
 returns : tie.Need-returns Inv-loop μ-loop
 returns c = (search needs, λ h. absurd (let f : ⊥ = omega arith in f))
 
-add-n : tie.Need-add-n Inv-loop μ-loop
-add-n c = search needs
-
 returns-2 : tie.Need-returns-2 Inv-loop μ-loop
 returns-2 c = (search needs, λ h. absurd (let f : ⊥ = omega arith in f))
-
-loop-holds : tie.Need-loop-holds Inv-loop μ-loop
-loop-holds c = search needs
-
-name-byte-requires : tie.Need-name-byte-requires Inv-loop μ-loop
-name-byte-requires c κs = search needs
-
-slice-write-out : tie.Need-slice-write-out Inv-loop μ-loop
-slice-write-out c = search needs
-
-add-i : tie.Need-add-i Inv-loop μ-loop
-add-i c = search needs
-
-loop-less : tie.Need-loop-less Inv-loop μ-loop
-loop-less c = search needs
 
 loop-again : tie.Need-loop-again Inv-loop μ-loop
 loop-again c =
@@ -45,9 +27,6 @@ loop-again c =
     let a = l .before .before .before .before .before .args in
     let m = name-length (a .path .now) in
     (search needs, name-more (newName (a .path .now)) (l .loop .out) (l .loop .i) (c .name-byte .result) (omega arith) (omega arith) (l .loop .inv .1) (c .name-byte .ensures))
-
-same-length : tie.Need-same-length Inv-loop μ-loop
-same-length c = search needs
 
 returns-3 : tie.Need-returns-3 Inv-loop μ-loop
 returns-3 c =
@@ -59,17 +38,5 @@ returns-3 c =
 pub new-name-spec : {M : Type 1} → statement M
 new-name-spec =
     tie.close
-    (tie.spec
-    Inv-loop
-    μ-loop
-    returns
-    add-n
-    returns-2
-    loop-holds
-    name-byte-requires
-    slice-write-out
-    add-i
-    loop-less
-    loop-again
-    same-length
-    returns-3)
+    (tie.spec Inv-loop μ-loop returns (λ c. search needs) returns-2 (λ c. search needs) (λ c κs. search needs) (λ c. search needs)
+    (λ c. search needs) (λ c. search needs) loop-again (λ c. search needs) returns-3)

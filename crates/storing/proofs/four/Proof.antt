@@ -21,17 +21,5 @@ returns c = simp towards-suc
 pub four-spec : {M : Type 1} → statement M
 four-spec =
     tie.close
-    (tie.spec
-    (λ c. search needs)
-    (λ c. search needs)
-    (λ c. search needs)
-    (λ c. search needs)
-    slice-write-s-2
-    (λ c. search needs)
-    (λ c. search needs)
-    slice-write-s-3
-    (λ c. search needs)
-    (λ c. search needs)
-    slice-write-s-4
-    (λ c. search needs)
-    returns)
+    (tie.spec (λ c. search needs) (λ c. search needs) (λ c. search needs) (λ c. search needs) slice-write-s-2 (λ c. search needs)
+    (λ c. search needs) slice-write-s-3 (λ c. search needs) (λ c. search needs) slice-write-s-4 (λ c. search needs) returns)

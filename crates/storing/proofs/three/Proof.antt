@@ -18,14 +18,5 @@ returns c = simp towards-suc
 pub three-spec : {M : Type 1} → statement M
 three-spec =
     tie.close
-    (tie.spec
-    (λ c. search needs)
-    (λ c. search needs)
-    (λ c. search needs)
-    (λ c. search needs)
-    slice-write-s-2
-    (λ c. search needs)
-    (λ c. search needs)
-    slice-write-s-3
-    (λ c. search needs)
-    returns)
+    (tie.spec (λ c. search needs) (λ c. search needs) (λ c. search needs) (λ c. search needs) slice-write-s-2 (λ c. search needs)
+    (λ c. search needs) slice-write-s-3 (λ c. search needs) returns)

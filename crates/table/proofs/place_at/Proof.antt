@@ -8,10 +8,4 @@ returns : tie.Need-returns
 returns c = let a = c .before .before .args in c .place-of .ensures ∙ read-at (a .ps .now) (a .k)
 
 pub place-at-spec : {M : Type 1} → statement M
-place-at-spec =
-    tie.close
-    (tie.spec
-    (λ c. search needs)
-    (λ c. search needs)
-    (λ c κs. search needs)
-    returns)
+place-at-spec = tie.close (tie.spec (λ c. search needs) (λ c. search needs) (λ c κs. search needs) returns)

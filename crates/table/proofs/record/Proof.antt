@@ -8,10 +8,4 @@ returns : tie.Need-returns
 returns c = let a = c .before .before .args in c .record-of .ensures ∙ ap (λ l. l .holds) (read-at (a .ps .now) (a .k))
 
 pub record-spec : {M : Type 1} → statement M
-record-spec =
-    tie.close
-    (tie.spec
-    (λ c. search needs)
-    (λ c. search needs)
-    (λ c κs. search needs)
-    returns)
+record-spec = tie.close (tie.spec (λ c. search needs) (λ c. search needs) (λ c κs. search needs) returns)

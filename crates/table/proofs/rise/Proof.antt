@@ -9,10 +9,4 @@ returns : tie.Need-returns
 returns c = let a = c .before .args in ap riseOf (read-at (a .ps .now) (a .k))
 
 pub rise-spec : {M : Type 1} → statement M
-rise-spec =
-    tie.close
-    (tie.spec
-    (λ c. search needs)
-    (λ c. search needs)
-    (λ c. search needs)
-    returns)
+rise-spec = tie.close (tie.spec (λ c. search needs) (λ c. search needs) (λ c. search needs) returns)

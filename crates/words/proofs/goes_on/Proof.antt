@@ -2,18 +2,6 @@ use borrow.Author.Needs.{needs}
 use Rattle.words.proofs.goes_on.Statement.{statement}
 use Rattle.words.proofs.goes_on.Tie as tie
 
-enum-told : tie.Need-enum-told
-enum-told c = search needs
-
-enum-told-2 : tie.Need-enum-told-2
-enum-told-2 c = search needs
-
-enum-told-3 : tie.Need-enum-told-3
-enum-told-3 c = search needs
-
-nibble-requires : tie.Need-nibble-requires
-nibble-requires c κs = search needs
-
 returns : tie.Need-returns
 returns c = rw (c .enum-told .given .1)
 
@@ -26,4 +14,4 @@ returns-3 c = rw (c .before .enum-told3 .given .1, ← c .nibble .ensures .0)
 pub goes-on-spec : {M : Type 1} → statement M
 goes-on-spec =
     tie.close
-    (tie.spec enum-told enum-told-2 enum-told-3 nibble-requires returns returns-2 returns-3)
+    (tie.spec (λ c. search needs) (λ c. search needs) (λ c. search needs) (λ c κs. search needs) returns returns-2 returns-3)

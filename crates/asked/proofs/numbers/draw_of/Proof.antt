@@ -15,24 +15,6 @@ abbrev μ-loop : tie.MeasureT-loop
 loop-holds : tie.Need-loop-holds Inv-loop μ-loop
 loop-holds c = none-filled _ (search needs)
 
-mul-one-byte : tie.Need-mul-one-byte Inv-loop μ-loop
-mul-one-byte c = search needs
-
-array-read-one-byte : tie.Need-array-read-one-byte Inv-loop μ-loop
-array-read-one-byte c = search needs
-
-one-byte-requires : tie.Need-one-byte-requires Inv-loop μ-loop
-one-byte-requires c κs = search needs
-
-array-write-draw : tie.Need-array-write-draw Inv-loop μ-loop
-array-write-draw c = search needs
-
-add-i : tie.Need-add-i Inv-loop μ-loop
-add-i c = search needs
-
-loop-less : tie.Need-loop-less Inv-loop μ-loop
-loop-less c = search needs
-
 loop-again : tie.Need-loop-again Inv-loop μ-loop
 loop-again c = one-more _ (c .before .before .loop .inv) (omega arith) (c .one-byte .ensures)
 
@@ -42,15 +24,5 @@ returns c = all-filled (c .before .loop .inv) (omega arith)
 pub draw-of-spec : {M : Type 1} → statement M
 draw-of-spec =
     tie.close
-    (tie.spec
-    Inv-loop
-    μ-loop
-    loop-holds
-    mul-one-byte
-    array-read-one-byte
-    one-byte-requires
-    array-write-draw
-    add-i
-    loop-less
-    loop-again
-    returns)
+    (tie.spec Inv-loop μ-loop loop-holds (λ c. search needs) (λ c. search needs) (λ c κs. search needs) (λ c. search needs)
+    (λ c. search needs) (λ c. search needs) loop-again returns)

@@ -2,17 +2,8 @@ use borrow.Author.Needs.{needs}
 use Rattle.asked.proofs.opening.product_of.Statement.{statement}
 use Rattle.asked.proofs.opening.product_of.Tie as tie
 
-of-requires : tie.Need-of-requires
-of-requires c κs = search needs
-
-two-bytes-requires : tie.Need-two-bytes-requires
-two-bytes-requires c κs = search needs
-
-two-bytes-requires-2 : tie.Need-two-bytes-requires-2
-two-bytes-requires-2 c κs = search needs
-
 returns : tie.Need-returns
 returns c = rw (c .two-bytes2 .ensures, c .before .two-bytes .ensures, c .before .before .of .ensures)
 
 pub product-of-spec : {M : Type 1} → statement M
-product-of-spec = tie.close (tie.spec of-requires two-bytes-requires two-bytes-requires-2 returns)
+product-of-spec = tie.close (tie.spec (λ c κs. search needs) (λ c κs. search needs) (λ c κs. search needs) returns)

@@ -12,21 +12,10 @@ returns-2 c = search (lt-ltb, le-ltb, eq-eqb, ne-eqb, le-leb, lt-leb)
 returns-3 : tie.Need-returns-3
 returns-3 c = search (lt-ltb, le-ltb, eq-eqb, ne-eqb, le-leb, lt-leb)
 
-sub-fives : tie.Need-sub-fives
-sub-fives c = search needs
-
-mul-fives : tie.Need-mul-fives
-mul-fives c = search needs
-
-add-t4 : tie.Need-add-t4
-add-t4 c = search needs
-
-add-t5 : tie.Need-add-t5
-add-t5 c = search needs
-
 returns-4 : tie.Need-returns-4
 returns-4 c = search (lt-ltb, le-ltb, eq-eqb, ne-eqb, le-leb, lt-leb)
 
 pub of-spec : {M : Type 1} → statement M
 of-spec =
-    tie.close (tie.spec returns returns-2 returns-3 sub-fives mul-fives add-t4 add-t5 returns-4)
+    tie.close
+    (tie.spec returns returns-2 returns-3 (λ c. search needs) (λ c. search needs) (λ c. search needs) (λ c. search needs) returns-4)

@@ -3,9 +3,6 @@ use borrow.Author.Needs.{needs}
 use Rattle.rules.proofs.Record.outbid_withdrawal.Statement.{statement}
 use Rattle.rules.proofs.Record.outbid_withdrawal.Tie as tie
 
-sub-n : tie.Need-sub-n
-sub-n c = search needs
-
 returns : tie.Need-returns
 returns c = search (lt-ltb, le-ltb)
 
@@ -13,4 +10,4 @@ returns-2 : tie.Need-returns-2
 returns-2 c = search (lt-ltb, le-ltb)
 
 pub outbid-withdrawal-spec : {M : Type 1} → statement M
-outbid-withdrawal-spec = tie.close (tie.spec sub-n returns returns-2)
+outbid-withdrawal-spec = tie.close (tie.spec (λ c. search needs) returns returns-2)

@@ -25,11 +25,5 @@ above-fits z f e =
 cast-result : tie.Need-cast-result
 cast-result c = above-fits (c .before .args .why) (c .before .fits .why .sfits) (c .if1 .taken)
 
-returns : tie.Need-returns
-returns c = search needs
-
-returns-2 : tie.Need-returns-2
-returns-2 c = search needs
-
 pub number-spec : {M : Type 1} → statement M
-number-spec = tie.close (tie.spec cast-result returns returns-2)
+number-spec = tie.close (tie.spec cast-result (λ c. search needs) (λ c. search needs))

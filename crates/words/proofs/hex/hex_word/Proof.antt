@@ -4,17 +4,11 @@ use borrow.Author.Needs.{needs}
 use Rattle.words.proofs.hex.hex_word.Statement.{statement}
 use Rattle.words.proofs.hex.hex_word.Tie as tie
 
-mul-if1 : tie.Need-mul-if1
-mul-if1 c = search needs
-
 returns : tie.Need-returns
 returns c = rw (lt-ltb _ _ (c .if1 .taken)) (refl, refl)
 
 returns-2 : tie.Need-returns-2
 returns-2 c = rw (le-ltb _ _ (c .before .if1 .left), lt-ltb _ _ (c .if2 .taken)) (refl, refl)
-
-put-bytes-requires : tie.Need-put-bytes-requires
-put-bytes-requires c κs = search needs
 
 returns-3 : tie.Need-returns-3
 returns-3 c =
@@ -22,4 +16,4 @@ returns-3 c =
     rw (le-ltb _ _ (t .before .if1 .left), le-ltb _ _ (t .if2 .left)) (refl, c .put-bytes .ensures)
 
 pub hex-word-spec : {M : Type 1} → statement M
-hex-word-spec = tie.close (tie.spec mul-if1 returns returns-2 put-bytes-requires returns-3)
+hex-word-spec = tie.close (tie.spec (λ c. search needs) returns returns-2 (λ c κs. search needs) returns-3)

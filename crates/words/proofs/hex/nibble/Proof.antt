@@ -16,9 +16,6 @@ returns-3 : tie.Need-returns-3
 unfolding nibbleOf
 returns-3 c = (search (lt-ltb, le-ltb, le-leb, lt-leb), search needs)
 
-sub-result : tie.Need-sub-result
-sub-result c = search needs
-
 returns-4 : tie.Need-returns-4
 unfolding nibbleOf
 returns-4 c = (search (lt-ltb, le-ltb, le-leb, lt-leb), search needs)
@@ -26,9 +23,6 @@ returns-4 c = (search (lt-ltb, le-ltb, le-leb, lt-leb), search needs)
 returns-5 : tie.Need-returns-5
 unfolding nibbleOf
 returns-5 c = (search (lt-ltb, le-ltb, le-leb, lt-leb), search needs)
-
-sub-result-2 : tie.Need-sub-result-2
-sub-result-2 c = search needs
 
 returns-6 : tie.Need-returns-6
 unfolding nibbleOf
@@ -41,13 +35,4 @@ returns-7 c = (search (lt-ltb, le-ltb, le-leb, lt-leb), search needs)
 pub nibble-spec : {M : Type 1} → statement M
 nibble-spec =
     tie.close
-    (tie.spec
-    returns
-    returns-2
-    returns-3
-    sub-result
-    returns-4
-    returns-5
-    sub-result-2
-    returns-6
-    returns-7)
+    (tie.spec returns returns-2 returns-3 (λ c. search needs) returns-4 returns-5 (λ c. search needs) returns-6 returns-7)

@@ -9,30 +9,6 @@ returns c = search (lt-ltb, le-ltb, le-leb, lt-leb)
 returns-2 : tie.Need-returns-2
 returns-2 c = search (lt-ltb, le-ltb, le-leb, lt-leb)
 
-enum-known-n : tie.Need-enum-known-n
-enum-known-n c = search needs
-
-cast-d : tie.Need-cast-d
-cast-d c = search needs
-
-cast-w : tie.Need-cast-w
-cast-w c = search needs
-
-mul-w : tie.Need-mul-w
-mul-w c = search needs
-
-add-w : tie.Need-add-w
-add-w c = search needs
-
-cast-t13 : tie.Need-cast-t13
-cast-t13 c = search needs
-
-enum-told : tie.Need-enum-told
-enum-told c = search needs
-
-enum-told-2 : tie.Need-enum-told-2
-enum-told-2 c = search needs
-
 returns-3 : tie.Need-returns-3
 returns-3 c = search (lt-ltb, le-ltb, le-leb, lt-leb, c .before .before .n .given .1)
 
@@ -48,18 +24,5 @@ returns-6 c = search (lt-ltb, le-ltb, le-leb, lt-leb, c .enum-told2 .given .1)
 pub digit-after-spec : {M : Type 1} → statement M
 digit-after-spec =
     tie.close
-    (tie.spec
-    returns
-    returns-2
-    enum-known-n
-    cast-d
-    cast-w
-    mul-w
-    add-w
-    cast-t13
-    enum-told
-    enum-told-2
-    returns-3
-    returns-4
-    returns-5
-    returns-6)
+    (tie.spec returns returns-2 (λ c. search needs) (λ c. search needs) (λ c. search needs) (λ c. search needs) (λ c. search needs)
+    (λ c. search needs) (λ c. search needs) (λ c. search needs) returns-3 returns-4 returns-5 returns-6)

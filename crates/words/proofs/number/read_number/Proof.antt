@@ -18,18 +18,6 @@ loop-holds : tie.Need-loop-holds Inv-loop μ-loop
 unfolding readUpTo
 loop-holds c = search needs
 
-shared-slice-read-digit-after : tie.Need-shared-slice-read-digit-after Inv-loop μ-loop
-shared-slice-read-digit-after c = search needs
-
-digit-after-requires : tie.Need-digit-after-requires Inv-loop μ-loop
-digit-after-requires c κs = search needs
-
-add-i : tie.Need-add-i Inv-loop μ-loop
-add-i c = search needs
-
-loop-less : tie.Need-loop-less Inv-loop μ-loop
-loop-less c = search needs
-
 loop-again : tie.Need-loop-again Inv-loop μ-loop
 unfolding readUpTo
 loop-again c = (search needs, rw (add-one, ← c .before .before .before .loop .inv .1) (c .digit-after .ensures))
@@ -40,13 +28,5 @@ returns c = cc (le-antisymm (c .before .loop .inv .0) (c .loop-test .left))
 pub read-number-spec : {M : Type 1} → statement M
 read-number-spec =
     tie.close
-    (tie.spec
-    Inv-loop
-    μ-loop
-    loop-holds
-    shared-slice-read-digit-after
-    digit-after-requires
-    add-i
-    loop-less
-    loop-again
+    (tie.spec Inv-loop μ-loop loop-holds (λ c. search needs) (λ c κs. search needs) (λ c. search needs) (λ c. search needs) loop-again
     returns)
