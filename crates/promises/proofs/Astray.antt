@@ -11,7 +11,7 @@ use lib.Dec.{eqb}
 use Rattle.rules.specs.declared.Settings.{Settings}
 use Rattle.rules.specs.Layout.{stateLength}
 use Rattle.rules.specs.Calls.{openNumber, openCall, returnCall}
-use Rattle.rules.proofs.OneCall.{issued-not-standing, open-refused, file-refused, calculate-refused, cutback-refused, return-issued, open-stands}
+use Rattle.laws.proofs.OneCall.{issued-not-standing, open-refused, file-refused, calculate-refused, cutback-refused, return-issued, open-stands}
 use Rattle.promises.specs.Runs.{Call, opens, files, counts, calculates, cuts, reports, results, reads, writes, suggests, after}
 use Rattle.promises.specs.Hires.{Issued, IssuedOrStanding, Sized, Use, called, returned, used}
 use Rattle.promises.proofs.Steps.{after-stands}

@@ -26,13 +26,13 @@ use Rattle.rules.specs.Calls.{opened, openNumber, cardNumber, withCard, calcula
 use Rattle.rules.proofs.Sums.{sum-ext}
 use Rattle.rules.proofs.Lists.{clash, list-at}
 use Rattle.rules.proofs.Storing.{loaded-long}
-use Rattle.rules.proofs.Bids.{bids-accepted}
-use Rattle.rules.proofs.Calling.{granted}
-use Rattle.rules.proofs.Round.{round-closes}
+use Rattle.laws.proofs.Bids.{bids-accepted}
+use Rattle.laws.proofs.Calling.{granted}
+use Rattle.laws.proofs.Round.{round-closes}
 use Rattle.rules.proofs.Cutback.{cut-only}
 use Rattle.rules.specs.Stands.{Stands}
 use Rattle.rules.specs.OneCall.{StandsIn}
-use Rattle.rules.proofs.OneCall.{stood, of-standing, open-stands, open-loaded, open-standing, file-refused, calculate-accepts, calculate-loaded, calculate-refused, cutback-accepts, cutback-refused}
+use Rattle.laws.proofs.OneCall.{stood, of-standing, open-stands, open-loaded, open-standing, file-refused, calculate-accepts, calculate-loaded, calculate-refused, cutback-accepts, cutback-refused}
 use Rattle.promises.specs.Runs.{Call, opens, files, counts, calculates, cuts, reports, results, reads, writes, suggests, after, run, openedBy, filledPart, Round, roundOf, Cutback, cutbacks, settingsAfter}
 use Rattle.promises.specs.Awards.{Closed, awardOn, paidFor}
 use Rattle.promises.proofs.Offers.{closed-within}

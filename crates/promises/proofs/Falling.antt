@@ -19,10 +19,10 @@ use Rattle.rules.specs.Standing.{isOpen}
 use Rattle.rules.specs.Calls.{openNumber, withCard, calculateNumber, calculateCall}
 use Rattle.rules.specs.Stands.{Stands, Long}
 use Rattle.rules.proofs.Storing.{loaded-long}
-use Rattle.rules.proofs.Bids.{bids-accepted}
+use Rattle.laws.proofs.Bids.{bids-accepted}
 use Rattle.rules.specs.OneCall.{PriceAfter, StandsIn}
-use Rattle.rules.proofs.Round.{round-prices}
-use Rattle.rules.proofs.OneCall.{stood, open-stands, calculate-accepts, calculate-loaded}
+use Rattle.laws.proofs.Round.{round-prices}
+use Rattle.laws.proofs.OneCall.{stood, open-stands, calculate-accepts, calculate-loaded}
 use Rattle.promises.specs.Runs.{Call, after, run, openedBy, Round, Cutback, cutbackOf, cutbacks}
 use Rattle.promises.proofs.Steps.{Step, same, card, round, cut, step, some-none, opened-stands, opened-settings, opened-keeps, in-use, parts-later}
 

@@ -20,12 +20,12 @@ use Rattle.rules.specs.Calls.{opened, openNumber, withCard}
 use Rattle.rules.specs.Stands.{Stands, Long}
 use Rattle.rules.proofs.Sums.{sum-ext, sum-le, sum-six, sum-add, sum-zero}
 use Rattle.rules.proofs.Storing.{loaded-long}
-use Rattle.rules.proofs.Opening.{blank, opened-free}
-use Rattle.rules.proofs.Bids.{bids-accepted}
-use Rattle.rules.proofs.Round.{round-setup, round-eligibility}
+use Rattle.laws.proofs.Opening.{blank, opened-free}
+use Rattle.laws.proofs.Bids.{bids-accepted}
+use Rattle.laws.proofs.Round.{round-setup, round-eligibility}
 use Rattle.rules.proofs.Cutback.{cut-only}
 use Rattle.rules.specs.OneCall.{StandsIn}
-use Rattle.rules.proofs.OneCall.{stood, open-stands, open-loaded}
+use Rattle.laws.proofs.OneCall.{stood, open-stands, open-loaded}
 use Rattle.promises.specs.Runs.{Call, after, run, openedBy, Round, roundOf, rounds, Cutback}
 use Rattle.promises.specs.Offered.{OnOffer, noOffer, offeredFrom, onOffer, inRounds, givenUp, withdrawnIn}
 use Rattle.promises.specs.Awards.{Closed, awardOn}

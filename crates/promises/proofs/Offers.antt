@@ -23,11 +23,11 @@ use Rattle.rules.specs.Stands.{Stands, Long}
 use Rattle.rules.proofs.Sums.{sum-ge, and-right}
 use Rattle.rules.proofs.Signed.{above-zero}
 use Rattle.rules.proofs.Places.{goingOf, deniedOf}
-use Rattle.rules.proofs.Outbidding.{deemed-exact}
-use Rattle.rules.proofs.Made.{AllAccepted}
-use Rattle.rules.proofs.Booked.{Booked, kept-end, trail, unticked, fresh, booked}
-use Rattle.rules.proofs.Settled.{settled-held, settled-record}
-use Rattle.rules.proofs.Round.{round-setup, round-prices}
+use Rattle.laws.proofs.Outbidding.{deemed-exact}
+use Rattle.laws.proofs.Made.{AllAccepted}
+use Rattle.laws.proofs.Booked.{Booked, kept-end, trail, unticked, fresh, booked}
+use Rattle.laws.proofs.Settled.{settled-held, settled-record}
+use Rattle.laws.proofs.Round.{round-setup, round-prices}
 use Rattle.rules.proofs.Cutback.{cut-only, cut-price}
 use Rattle.promises.specs.Runs.{Round}
 use Rattle.promises.specs.Offered.{OnOffer, increaseLeft, offeringBy, offering}

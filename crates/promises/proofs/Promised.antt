@@ -12,7 +12,7 @@ use Rattle.rules.specs.Held.{heldIn}
 use Rattle.rules.specs.Bid.{recordOf}
 use Rattle.rules.specs.Layout.{loaded}
 use Rattle.rules.specs.Calls.{openNumber}
-use Rattle.rules.proofs.OneCall.{stood, open-stands}
+use Rattle.laws.proofs.OneCall.{stood, open-stands}
 use Rattle.promises.specs.Runs.{Call, run, openedBy, filledPart, cutbacks, settingsAfter}
 use Rattle.promises.proofs.Steps.{opened-stands, opened-settings, opened-terms, opened-keeps, in-use, bidding, parts-later}
 

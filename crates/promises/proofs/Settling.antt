@@ -24,11 +24,12 @@ use Rattle.rules.specs.Round.{calculated}
 use Rattle.rules.specs.Layout.{loaded}
 use Rattle.rules.specs.Calls.{openCall, fileCall, countCall, calculateNumber, calculationDone, calculateCall, cutbackCall, reportCall, resultCall, returnCall, readCall, writeCall, suggestedCall}
 use Rattle.rules.proofs.Storing.{loaded-long}
-use Rattle.rules.proofs.Bids.{bids-accepted}
-use Rattle.rules.specs.Counted.{keptWhereTicked, CountsOutbid}
-use Rattle.rules.proofs.Round.{round-kept, round-outbid}
+use Rattle.laws.proofs.Bids.{bids-accepted}
+use Rattle.laws.specs.Counted.{keptWhereTicked, CountsOutbid}
+use Rattle.laws.proofs.Round.{round-kept, round-outbid}
 use Rattle.rules.specs.OneCall.{StandsIn}
-use Rattle.rules.proofs.OneCall.{leaves-one, gives-one, stood, calculate-accepts, calculate-loaded}
+use Rattle.rules.proofs.Settling.{leaves-one, gives-one}
+use Rattle.laws.proofs.OneCall.{stood, calculate-accepts, calculate-loaded}
 
 -- ---- one outcome
 

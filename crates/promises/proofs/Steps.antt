@@ -22,11 +22,11 @@ use Rattle.rules.specs.Standing.{isOpen}
 use Rattle.rules.specs.Calls.{openNumber, fileNumber, fileCall, withCard, calculateNumber, calculateCall, cutbackNumber, cutbackCall}
 use Rattle.rules.specs.Stands.{Stands, Long}
 use Rattle.rules.proofs.Storing.{loaded-long}
-use Rattle.rules.proofs.Bids.{bids-accepted}
-use Rattle.rules.proofs.Round.{round-setup, round-filled, round-prices}
+use Rattle.laws.proofs.Bids.{bids-accepted}
+use Rattle.laws.proofs.Round.{round-setup, round-filled, round-prices}
 use Rattle.rules.proofs.Cutback.{revised-target, revised-cap, revised-start, cut-numbers, cut-only}
 use Rattle.rules.specs.OneCall.{StandsIn}
-use Rattle.rules.proofs.OneCall.{stood, open-stands, open-setup, open-standing, file-loaded, file-refused, file-stands, calculate-accepts, calculate-loaded, calculate-refused, calculate-stands, cutback-accepts, cutback-loaded, cutback-refused, cutback-stands}
+use Rattle.laws.proofs.OneCall.{stood, open-stands, open-setup, open-standing, file-loaded, file-refused, file-stands, calculate-accepts, calculate-loaded, calculate-refused, calculate-stands, cutback-accepts, cutback-loaded, cutback-refused, cutback-stands}
 use Rattle.promises.specs.Runs.{Call, opens, files, counts, calculates, cuts, reports, results, reads, writes, suggests, after, run, openedBy, filledPart, Round, roundOf, Cutback, cutbackOf, cutbacks, revisedBy, settingsAfter}
 use Rattle.promises.specs.Demands.{KeptBut}
 

@@ -33,9 +33,9 @@ use Rattle.rules.specs.Layout.{stateLength, loaded, allZero}
 use Rattle.rules.specs.Standing.{isOpen}
 use Rattle.rules.specs.Calls.{opened, openNumber, openCall, ofState, cardNumber, withCard, afterCard, fileCall, openNumberOf, countCall, drawNumber, calculateNumber, calculateCall, cutNumber, cutbackNumber, cutbackCall, bidderNumber, reportCall, closedNumber, resultCall, returnCall, readCall, writeCall, suggestedCall}
 use Rattle.rules.proofs.Lists.{clash}
-use Rattle.rules.proofs.Calling.{granted}
+use Rattle.laws.proofs.Calling.{granted}
 use Rattle.rules.specs.OneCall.{StandsIn}
-use Rattle.rules.proofs.OneCall.{not-issued, of-standing, zeros, open-stands, open-loaded, open-standing, file-loaded, file-stands, calculate-accepts, calculate-loaded, calculate-stands, cutback-only, return-issued}
+use Rattle.laws.proofs.OneCall.{not-issued, of-standing, zeros, open-stands, open-loaded, open-standing, file-loaded, file-stands, calculate-accepts, calculate-loaded, calculate-stands, cutback-only, return-issued}
 use Rattle.rules.proofs.Cutback.{revised-target, revised-cap}
 use Rattle.promises.specs.Runs.{openedBy}
 use Rattle.promises.specs.Awards.{Closed}

@@ -20,9 +20,9 @@ use Rattle.rules.specs.Keep.{kept, keptAll}
 use Rattle.rules.specs.Outbid.{deemedUpTo, outbid, outbidAll}
 use Rattle.rules.specs.Round.{drawn, atRest, onward, stops, afterStep2, afterStep4, calculated}
 use Rattle.rules.specs.Layout.{loaded, stored}
-use Rattle.rules.proofs.Bids.{bids-accepted}
+use Rattle.laws.proofs.Bids.{bids-accepted}
 use Rattle.rules.proofs.Storing.{stored-long, loaded-long}
-use Rattle.rules.proofs.Round.{round-rest-loads}
+use Rattle.laws.proofs.Round.{round-rest-loads}
 use Rattle.book.specs.Lent.{Lent}
 use Rattle.held.specs.Ticks.{Ticks}
 use Rattle.rules.specs.Parts.{withPhase}

@@ -12,7 +12,7 @@ use Rattle.rules.specs.declared.Pick.the-variants.{At, Nobody}
 use Rattle.rules.specs.declared.Place.{Place}
 use Rattle.rules.specs.declared.Kept.{Kept}
 use Rattle.rules.specs.Count.{sumUpTo, firstUpTo, never}
-use Rattle.rules.specs.Keep.{Keepable, risen, cancelBy, short, leaver, mover, denyAt, keepStep, canKeep, kept, whileShort, keepLoop}
+use Rattle.rules.specs.Keep.{Keepable, risen, cancelBy, short, leaver, mover, denyAt, keepStep, canKeep, kept, whileShort, keepLoop, keptAll}
 use Rattle.rules.specs.Held.{standing, below}
 use Rattle.rules.specs.Accept.{placeAt, changed, heldOf, keptOf, leftOf, leavingOf, leavingAt, movingOf, riseOf, retain, deny, cancel, column, rowOf, every}
 use Rattle.rules.proofs.Sums.{sum-le, sum-six, sum-ge, sum-pos, sum-one, and-left, and-right, best-found, best-none}
@@ -357,6 +357,10 @@ module _ (m n : ℕ) (target : ℕ → ℕ) (tick : ℕ → Bool) (draw : ℕ �
     counted = refl;
   }
   keep-ends (suc f) ps c K h = loop-by f (keep-ends f) ps c K h (firstUpTo (short n target tick ps) m) refl
+
+  -- the definition has that fuel
+  pub kept-all-ends : (ps : List Place) → Keepable m n target tick ps → Ended m n target tick ps 0 (keptAll m n target tick draw ps)
+  kept-all-ends ps K = keep-ends (every leftOf ps n) ps 0 K (omega arith)
 
 -- a ticked product ends with its target at least, and with exactly it where something is kept
 module _ (m n : ℕ) (target : ℕ → ℕ) (tick : ℕ → Bool) where

@@ -10,7 +10,7 @@ use Rattle.rules.specs.declared.Setup.{Setup}
 use Rattle.rules.specs.declared.Auction.{Auction}
 use Rattle.rules.specs.Settings.{setup, withinLimits, itemWithin, bidderWithin, rowWithin, leastDecrement, targetOf, capOf, startOf, percentOf}
 use Rattle.rules.specs.Held.{retainedIn, exitIn, heldIn, recordAt, held, ticked, excess}
-use Rattle.rules.specs.Bid.{recordOf, priceAt, beforeAt}
+use Rattle.rules.specs.Bid.{recordOf, priceAt, beforeAt, hasFiled}
 use Rattle.rules.specs.Standing.{implies, keptOn, isOpen, productStands, recordZero, recordWithin, recordStands, bidderStands, slotStands, openStands, stands}
 use Rattle.rules.proofs.Sums.{and-left, and-right}
 use Rattle.rules.proofs.Lists.{both, all-give, all-take}
@@ -221,3 +221,7 @@ module _ (a : Auction) (S : Stands a) where
       let b = all-give (bidderStands a) 32 (λ b l. bidder-by b l (ltb b (a .terms .bidders)) refl) in
       let s = all-give (slotStands a) 32 (S .slots) in
       search shown depth 9
+
+-- only bidders in use have filed
+pub filed-in-use : (a : Auction) → Stands a → (b : ℕ) → b < 32 → hasFiled a b ≡ true → b < a .terms .bidders
+filed-in-use a S b h e = let x = rw e at (S .slots b h) in search told

@@ -12,7 +12,6 @@ pub mod Accept
 pub mod Keep
 pub mod Outbid
 pub mod Round
-pub mod Counted
 pub mod Price
 pub mod Cutback
 pub mod Report

@@ -184,31 +184,16 @@ impl Line {
     pub fn fits(self) -> bool
         ensures { λ r. ⌜ r ≡ lineFits self ⌝ }
     {
-        if self.tranches.0 >= 256 {
-            return false;
-        }
-        if self.withdrawn.count.0 >= 256 {
-            return false;
-        }
-        if self.withdrawn.exit >= 131072 {
-            return false;
-        }
-        self.priority < 8
+        (self.tranches.0 < 256)
+            & ((self.withdrawn.count.0 < 256)
+                & ((self.withdrawn.exit < 131072) & (self.priority < 8)))
     }
 
     pub fn is_zero(self) -> bool
         ensures { λ r. ⌜ r ≡ lineZero self ⌝ }
     {
-        if self.tranches.0 != 0 {
-            return false;
-        }
-        if self.withdrawn.count.0 != 0 {
-            return false;
-        }
-        if self.withdrawn.exit != 0 {
-            return false;
-        }
-        self.priority == 0
+        (self.tranches.0 == 0)
+            & ((self.withdrawn.count.0 == 0) & ((self.withdrawn.exit == 0) & (self.priority == 0)))
     }
 }
 
@@ -269,16 +254,8 @@ impl Record {
     pub fn is_zero(self) -> bool
         ensures { λ r. ⌜ r ≡ recordZero self ⌝ }
     {
-        if self.going.0 != 0 {
-            return false;
-        }
-        if self.denied.0 != 0 {
-            return false;
-        }
-        if self.retained.count.0 != 0 {
-            return false;
-        }
-        self.retained.exit == 0
+        (self.going.0 == 0)
+            & ((self.denied.0 == 0) & ((self.retained.count.0 == 0) & (self.retained.exit == 0)))
     }
 
     // A withdrawal is retained at its exit price.
@@ -442,6 +419,13 @@ pub enum Phase {
     Stopped,
 }
 
+// The phases by the state's first byte; an issued state has 0 there.
+pub const OPEN: u8 = 1;
+
+pub const CLOSED: u8 = 2;
+
+pub const STOPPED: u8 = 3;
+
 impl Phase {
     pub fn of(number: u8) -> Phase
         ensures { λ r. ⌜ r ≡ phaseOf number ⌝ }
@@ -449,10 +433,10 @@ impl Phase {
         if number == 0 {
             return Phase::Issued;
         }
-        if number == 1 {
+        if number == OPEN {
             return Phase::Open;
         }
-        if number == 2 {
+        if number == CLOSED {
             return Phase::Closed;
         }
         Phase::Stopped

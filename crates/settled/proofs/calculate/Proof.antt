@@ -1,5 +1,5 @@
 use borrow.Author.Needs.{needs}
-use Rattle.rules.proofs.OneCall.{leaves-one}
+use Rattle.rules.proofs.Settling.{leaves-one}
 use Rattle.settled.proofs.calculate.Statement.{statement}
 use Rattle.settled.proofs.calculate.Tie as tie
 

@@ -1,5 +1,5 @@
 use borrow.Author.Needs.{needs}
-use Rattle.rules.proofs.OneCall.{gives-one}
+use Rattle.rules.proofs.Settling.{gives-one}
 use Rattle.settled.proofs.result.Statement.{statement}
 use Rattle.settled.proofs.result.Tie as tie
 

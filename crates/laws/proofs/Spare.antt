@@ -8,19 +8,19 @@ use native.Mathlib.Omega.{arith}
 use borrow.Author.Tests.{ltb-true, ltb-false, le-ltb}
 use lib.ListN.{getD}
 use lib.Dec.{ltb}
 use Rattle.rules.specs.declared.Auction.{Auction}
 use Rattle.rules.specs.Card.{noLine, lineZero}
 use Rattle.rules.specs.Held.{nothing, place, recordAt}
 use Rattle.rules.specs.Bid.{onProduct, hasFiled, slotOf}
 use Rattle.rules.specs.Layout.{read1, read2, read3, recordFrom, lineFrom, loaded, productWidth, bidderWidth, rowWidth, recordWidth, lineWidth, productsFrom, biddersFrom, rowsFrom, recordsFrom, bidsFrom}
 use Rattle.rules.specs.Standing.{recordZero}
 use Rattle.rules.specs.Stands.{Stands}
 use Rattle.rules.specs.OneCall.{StandsIn, SpareZero}
 use Rattle.rules.proofs.Lists.{clash, list-at, all-take}
 use Rattle.rules.proofs.Parts.{target-is, cap-is, start-is, initial-is}
 use Rattle.rules.proofs.Tests.{told}
 use Rattle.rules.proofs.Storing.{lane-read, seat-read, row-read, record-read, line-read}
-use Rattle.rules.proofs.OneCall.{stood}
+use Rattle.laws.proofs.OneCall.{stood}
 
 -- ---- a number that is 0 is so byte for byte
 

@@ -8,47 +8,33 @@ use native.Mathlib.Nat.{div-mul-le-self, le-div-iff-mul-le}
 use borrow.Author.Tests.{eqb-true, eqb-false, eq-eqb, ne-eqb}
 use lib.ListN.{length, getD, replicate}
 use lib.Dec.{eqb, leb}
 use Rattle.rules.specs.declared.Tranches.{Tranches}
 use Rattle.rules.specs.declared.Settings.{Settings}
 use Rattle.rules.specs.declared.Auction.{Auction}
 use Rattle.rules.specs.declared.Outbid.{Outbid}
 use Rattle.rules.specs.declared.Calculated.{Calculated}
 use Rattle.rules.specs.declared.Calculation.the-variants as calculation
 use Rattle.rules.specs.Answers.{Outcome, outcome, Leaves, Gives, said, answerOf, calculationSaid, unlessRefused, closed, stopped}
 use Rattle.rules.specs.Settings.{settingsFit, setup, setupOf}
 use Rattle.rules.specs.OneCall.{StandsIn, RefusedSame, FiledOnly, CutOnly, CutPrice}
 use Rattle.rules.specs.Held.{excess}
 use Rattle.rules.specs.Round.{drawFits, afterStep2, afterStep4, atRest, onward, stops, settled, calculated}
 use Rattle.rules.specs.Cutback.{mayCut, cutBack, suggestedVolume, suggestedNumber}
 use Rattle.rules.specs.Layout.{stateLength, stored, loaded, allZero}
 use Rattle.rules.specs.Standing.{isOpen, stands}
 use Rattle.rules.specs.Card.{readCard, cardOf, writeNumber, writeCard}
 use Rattle.rules.specs.Calls.{opened, openNumber, openCall, ofState, cardNumber, fileNumber, bidderOn, afterCard, fileCall, countNumber, drawNumber, calculateNumber, calculationDone, calculateCall, cutNumber, cutbackNumber, cutbackCall, reportNumber, resultNumber, returnNumber, returnCall}
 use Rattle.rules.proofs.Lists.{clash, all-give, all-take}
 use Rattle.rules.specs.Stands.{Stands}
 use Rattle.rules.proofs.Standing.{stands-take, stands-give}
-use Rattle.rules.proofs.Bids.{bids-accepted}
-use Rattle.rules.proofs.Opening.{blank}
-use Rattle.rules.proofs.Filing.{slot-filed, slot-other, bit-filed, bit-other}
+use Rattle.laws.proofs.Bids.{bids-accepted}
+use Rattle.laws.proofs.Opening.{blank}
+use Rattle.laws.proofs.Filing.{slot-filed, slot-other, bit-filed, bit-other}
 use Rattle.rules.proofs.Storing.{stored-long, loaded-long, loaded-bits, stored-bytes}
 use Rattle.rules.proofs.Fitting.{phase-small, standing-loads}
-use Rattle.rules.proofs.Calling.{granted, opens, opens-loads, opens-setup, read-long, file-take, files, files-loads}
-use Rattle.rules.proofs.Round.{round-stands, round-long}
+use Rattle.laws.proofs.Calling.{granted, opens, opens-loads, opens-setup, read-long, file-take, files, files-loads}
+use Rattle.laws.proofs.Round.{round-stands, round-long}
 use Rattle.rules.proofs.Cutback.{cut-stands, cut-long, cut-only, cut-price}
-
--- ---- one outcome
-
--- "any two outcomes satisfying a contract coincide": answer and bytes of a call lent bytes to write, the answer of the others
-pub leaves-one : {A : Type 0} (d : Outcome A) (o k : A) (s t : List ℕ) → Leaves d o s → Leaves d k t → (o ≡ k) × (s ≡ t)
-leaves-one d o k s t O K =
-    let a = O .0 in
-    let b = K .0 in
-    let x = O .1 in
-    let y = K .1 in
-    (cc, cc)
-
-pub gives-one : {A : Type 0} (d o k : A) → Gives d o → Gives d k → o ≡ k
-gives-one d o k a b = cc
 
 -- ---- standing
 

@@ -8,35 +8,35 @@ use native.Mathlib.Nat.{zero-div}
 use borrow.Author.Tests.{eqb-true, eqb-false, eq-eqb, ltb-true, ltb-false, lt-ltb}
 use lib.ListN.{length, getD, replicate, length-replicate, getD-replicate}
 use lib.Dec.{eqb, ltb}
 use Rattle.rules.specs.declared.Record.{Record}
 use Rattle.rules.specs.declared.Lane.{Lane}
 use Rattle.rules.specs.declared.Outbid.{Outbid}
 use Rattle.rules.specs.declared.Auction.{Auction}
 use Rattle.rules.specs.Count.{sumUpTo}
 use Rattle.rules.specs.Answers.{bidsOpen, closed, stopped}
 use Rattle.rules.specs.Units.{tranches}
 use Rattle.rules.specs.Parts.{noLane, withPhase, withRound, withLanes, withPrices}
 use Rattle.rules.specs.Settings.{setup, targetOf, capOf, startOf, initialOf}
 use Rattle.rules.specs.Card.{noLine, lineZero}
 use Rattle.rules.specs.Held.{nothing, goingIn, deniedIn, retainedIn, exitIn, heldIn, keptIn, recordAt, held, aboveZero, standingOf, freeOf, eligibility, excess}
 use Rattle.rules.specs.Bid.{bidIn, recordOf, priceAt, beforeAt, onProduct, slotOf, bidOn}
 use Rattle.rules.specs.Accept.{placeAt, heldOf, keptOf, column, rowOf}
 use Rattle.rules.specs.Round.{atRest, priceNext, beforeNext, onward, atBottom, stops, settled}
 use Rattle.rules.specs.Standing.{keptOn, recordZero, slotStands, phaseStands}
 use Rattle.rules.proofs.Sums.{sum-ext, sum-le, sum-ge, sum-add}
 use Rattle.rules.proofs.Lists.{clash, both, all-give, list-at, list-long}
 use Rattle.rules.proofs.Signed.{above-zero}
 use Rattle.rules.proofs.Standing.{later-open}
 use Rattle.rules.specs.Stands.{Stands, Long}
 use Rattle.rules.proofs.Places.{worthOf}
-use Rattle.rules.proofs.Made.{NoRecord}
-use Rattle.rules.proofs.Booked.{Booked}
+use Rattle.laws.proofs.Made.{NoRecord}
+use Rattle.laws.proofs.Booked.{Booked}
 use Rattle.rules.specs.OneCall.{PriceAfter}
 use Rattle.rules.proofs.Prices.{cond-false, Priced, next, next-none}
 use Rattle.rules.proofs.Parts.{excess-same, price-anew, before-anew, prices-setup, free-anew, free-setup}
 use Rattle.rules.specs.Layout.{stored, loaded}
 use Rattle.rules.proofs.Storing.{Fits, loads}
 use Rattle.rules.proofs.Fitting.{fits}
 
 -- where a round closes: no award above a target, the target where it was filled, and for each bidder no less than it bid
 pub record Closes (a z : Auction) : Type 0 where

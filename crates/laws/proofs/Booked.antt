@@ -7,32 +7,32 @@ use native.Mathlib.Omega.{arith}
 use borrow.Author.Tests.{lt-ltb}
 use lib.ListN.{length, replicate, length-replicate, getD-replicate}
 use lib.Dec.{ltb}
 use Rattle.rules.specs.declared.Line.{Line}
 use Rattle.rules.specs.declared.Record.{Record}
 use Rattle.rules.specs.declared.Place.{Place}
 use Rattle.rules.specs.declared.Kept.{Kept}
 use Rattle.rules.specs.declared.Outbid.{Outbid}
 use Rattle.rules.specs.declared.Auction.{Auction}
 use Rattle.rules.specs.Count.{sumUpTo}
 use Rattle.rules.specs.Units.{tranches}
 use Rattle.rules.specs.Settings.{setup, targetOf, capOf}
 use Rattle.rules.specs.Held.{goingIn, deniedIn, retainedIn, exitIn, heldIn, keptIn, held, standing, above, ticked, freeOf}
 use Rattle.rules.specs.Bid.{bidIn, withdrawnIn, reduction, increase, recordOf, priceAt, beforeAt, bidOn}
 use Rattle.rules.specs.Accept.{placeAt, acceptedAll, heldOf, keptOf, movingOf, riseOf, column, rowOf, every}
 use Rattle.rules.specs.Outbid.{outbid, deemedUpTo}
 use Rattle.rules.specs.Round.{drawn, drawFits, afterStep2, afterStep4}
 use Rattle.rules.specs.Standing.{keptOn, isOpen}
 use Rattle.rules.proofs.Sums.{sum-ext, sum-le, sum-six, sum-ge, sum-add, sum-zero}
 use Rattle.rules.proofs.Lists.{clash}
 use Rattle.rules.proofs.Signed.{above-true, above-false}
 use Rattle.rules.proofs.Tests.{told}
 use Rattle.rules.proofs.Standing.{first-none}
 use Rattle.rules.specs.Stands.{Stands, Long}
 use Rattle.rules.proofs.Places.{goingOf, deniedOf, retainedOf, exitOf, worthOf}
-use Rattle.rules.proofs.Keep.{Moved, Ended, keep-ends, kept-met}
-use Rattle.rules.proofs.Outbidding.{freeAt, Deemed, deemed-each, deemed-long, deemed-not, Outed, OutEnded, out-ends}
-use Rattle.rules.proofs.Made.{AllAccepted, Made, Bare, NoRecord, made, made-bare, none-kept, keepable}
-use Rattle.rules.proofs.Draw.{draw-range, draw-reach}
+use Rattle.rules.proofs.Keep.{Moved, Ended, kept-all-ends, kept-met}
+use Rattle.laws.proofs.Outbidding.{freeAt, Deemed, deemed-each, deemed-long, deemed-not, Outed, OutEnded, out-ends}
+use Rattle.laws.proofs.Made.{AllAccepted, Made, Bare, NoRecord, made, made-bare, none-kept, keepable}
+use Rattle.laws.proofs.Draw.{draw-range, draw-reach}
 
 -- the book o that steps 1 to 4 leave of an auction a
 pub record Booked (a : Auction) (o : Outbid) : Type 0 where
@@ -127,8 +127,7 @@ module _ (a : Auction) (draw : List ℕ) where
     -- after step 2
     pub kept-end : Ended (a .terms .products) (a .terms .bidders) (targetOf (setup a)) (ticked a) (acceptedAll a) 0 (afterStep2 a draw)
     kept-end =
-        keep-ends m n goal (ticked a) (drawn draw) hm (draw-range n draw D) (draw-reach n draw D) _ l0 0
-        (keepable a S A) (omega arith)
+        kept-all-ends m n goal (ticked a) (drawn draw) hm (draw-range n draw D) (draw-reach n draw D) l0 (keepable a S A)
 
     -- after step 3
     pub deem-end : (j : ℕ) → Deemed (placeAt (afterStep2 a draw .places) j)

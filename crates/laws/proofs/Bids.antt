@@ -4,17 +4,17 @@ use mathlib.Core.Bool.{Bool, true, false, cond}
 use Prim.Native.Nat.{ℕ, _<_}
 use native.Mathlib.Omega.{arith}
 use lib.ListN.{getD}
 use Rattle.rules.specs.declared.Auction.{Auction}
 use Rattle.rules.specs.Settings.{setup, capOf}
 use Rattle.rules.specs.Card.{noLine}
 use Rattle.rules.specs.Held.{place, ticked, freeOf}
 use Rattle.rules.specs.Bid.{recordOf, priceAt, beforeAt, onProduct, hasFiled, slotOf, defaultLine, bidOn}
 use Rattle.rules.specs.Standing.{isOpen}
 use Rattle.rules.proofs.Lists.{list-at}
 use Rattle.rules.proofs.Tests.{told}
 use Rattle.rules.specs.Stands.{Stands, Accepted}
 use Rattle.rules.proofs.Judged.{judged-take, accepted-ext}
-use Rattle.rules.proofs.Default.{default-accepted}
+use Rattle.laws.proofs.Default.{default-accepted}
 
 module _ (a : Auction) (S : Stands a) (o : isOpen a ≡ true) (b : ℕ) (hb : b < a .terms .bidders) where
   bids-by : (t : Bool) → hasFiled a b ≡ t
@@ -30,7 +30,3 @@ module _ (a : Auction) (S : Stands a) (o : isOpen a ≡ true) (b : ℕ) (hb : b 
   -- the bid of each bidder passes 8 to 13
   pub bids-accepted : Accepted (a .terms .products) (ticked a) (capOf (setup a)) (priceAt a) (beforeAt a) (recordOf a b) (bidOn a b) (freeOf a b)
   bids-accepted = bids-by (hasFiled a b) refl
-
--- only bidders in use have filed
-pub filed-in-use : (a : Auction) → Stands a → (b : ℕ) → b < 32 → hasFiled a b ≡ true → b < a .terms .bidders
-filed-in-use a S b h e = let x = rw e at (S .slots b h) in search told

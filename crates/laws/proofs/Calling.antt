@@ -8,23 +8,23 @@ use borrow.Author.Tests.{ltb-true, ltb-false}
 use lib.ListN.{length, replicate, length-replicate, length-set}
 use lib.Seq.{getD-set-other}
 use lib.Dec.{eqb, ltb}
 use Rattle.rules.specs.declared.Line.{Line}
 use Rattle.rules.specs.declared.Card.{Card}
 use Rattle.rules.specs.declared.Card.the-variants.{Bid, Refused}
 use Rattle.rules.specs.declared.Settings.{Settings}
 use Rattle.rules.specs.declared.Auction.{Auction}
 use Rattle.rules.specs.Settings.{settingsFit, setup, setupOf, itemOf, productAt}
 use Rattle.rules.specs.Card.{noLine, lineZero, lineAt, lineBit, countFits, filled, cardLength, readLines, readRefused, bidOf, readCard}
 use Rattle.rules.specs.Bid.{onProduct, judged}
 use Rattle.rules.specs.Standing.{isOpen, zeroFrom}
 use Rattle.rules.specs.Layout.{stored, loaded}
 use Rattle.rules.specs.Calls.{opened, bidNumber, cardNumber, bidderOn, afterCard}
 use Rattle.rules.proofs.Lists.{all-give, list-long}
 use Rattle.rules.proofs.Tests.{told}
 use Rattle.rules.specs.Stands.{Long, Stands}
-use Rattle.rules.proofs.Opening.{blank, opened-setup, opened-stands, opened-long}
-use Rattle.rules.proofs.Filing.{filed-stands, filed-long, bits-filed}
+use Rattle.laws.proofs.Opening.{blank, opened-setup, opened-stands, opened-long}
+use Rattle.laws.proofs.Filing.{filed-stands, filed-long, bits-filed}
 use Rattle.rules.proofs.Fitting.{standing-loads}
 
 -- ---- open
 

@@ -6,28 +6,28 @@ use Prim.Native.Nat.{ℕ, _+_, _*_, _%_, _≤_, _<_}
 use native.Mathlib.Omega.{arith}
 use borrow.Author.Tests.{ltb-true, ltb-false}
 use lib.Dec.{ltb}
 use Rattle.rules.specs.declared.Place.{Place}
 use Rattle.rules.specs.declared.Outbid.{Outbid}
 use Rattle.rules.specs.declared.Auction.{Auction}
 use Rattle.rules.specs.Count.{sumUpTo}
 use Rattle.rules.specs.Answers.{closed}
 use Rattle.rules.specs.Settings.{setup, targetOf}
 use Rattle.rules.specs.Held.{goingIn, deniedIn, keptIn, held, ticked, eligibility}
 use Rattle.rules.specs.Bid.{bidIn, recordOf, bidOn}
 use Rattle.rules.specs.Accept.{placeAt, acceptedAll, keptOf, riseOf, deem, column}
 use Rattle.rules.specs.Outbid.{deemIf, deemedUpTo}
 use Rattle.rules.specs.Round.{drawFits, atRest, afterStep2, afterStep4, settled, calculated}
 use Rattle.rules.specs.Layout.{stored, loaded}
 use Rattle.rules.specs.Standing.{keptOn, isOpen}
-use Rattle.rules.specs.Counted.{keptWhereTicked, deemedAt, CountsOutbid}
+use Rattle.laws.specs.Counted.{keptWhereTicked, deemedAt, CountsOutbid}
 use Rattle.rules.proofs.Sums.{sum-ext, sum-six, sum-zero}
 use Rattle.rules.specs.Stands.{Stands, Long}
 use Rattle.rules.proofs.Places.{goingOf}
-use Rattle.rules.proofs.Outbidding.{deemed-exact}
-use Rattle.rules.proofs.Made.{AllAccepted, made-none}
-use Rattle.rules.proofs.Booked.{Booked, kept-end, out-end, trail, unticked, kept-ticked, booked}
+use Rattle.laws.proofs.Outbidding.{deemed-exact}
+use Rattle.laws.proofs.Made.{AllAccepted, made-none}
+use Rattle.laws.proofs.Booked.{Booked, kept-end, out-end, trail, unticked, kept-ticked, booked}
 use Rattle.rules.specs.OneCall.{PriceAfter}
-use Rattle.rules.proofs.Settled.{Closes, settled-stands, settled-long, settled-prices, settled-closes, settled-setup, settled-held, settled-kept, settled-record, settled-eligibility, rest-loads}
+use Rattle.laws.proofs.Settled.{Closes, settled-stands, settled-long, settled-prices, settled-closes, settled-setup, settled-held, settled-kept, settled-record, settled-eligibility, rest-loads}
 
 module _ (a : Auction) (draw : List ℕ) (S : Stands a) (L : Long a) (op : isOpen a ≡ true)
     (D : drawFits (a .terms .bidders) draw ≡ true) (A : AllAccepted a) where

@@ -1,0 +1,13 @@
+pub mod Default
+pub mod Bids
+pub mod Opening
+pub mod Filing
+pub mod Calling
+pub mod Outbidding
+pub mod Made
+pub mod Draw
+pub mod Booked
+pub mod Settled
+pub mod Round
+pub mod OneCall
+pub mod Spare
