@@ -1,5 +1,5 @@
 // The commands: a line, answered. What is typed is read by `asked`, the console's calls do the work, `told` writes their answers.
-ghost use Rattle.boxed.specs.Called.{Called};
+ghost use Rattle.rules.specs.Uses.{Called};
 pub use boxed::Kind;
 use check::same;
 use layout::STATE;

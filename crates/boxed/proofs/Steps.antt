@@ -8,10 +8,7 @@ use lib.ListN.{length}
 use Rattle.rules.specs.declared.Settings.{Settings}
 use Rattle.rules.specs.declared.Tranches.{Tranches}
 use Rattle.rules.specs.Calls.{openCall, fileCall, calculateCall, cutbackCall, returnCall}
-use Rattle.promises.specs.Runs.{opens, files, calculates, cuts, after}
-use Rattle.promises.specs.Hires.{IssuedOrStanding, Use, called, returned, used}
-use Rattle.promises.proofs.Astray.{never-astray}
-use Rattle.boxed.specs.Called.{Called, Reached}
+use Rattle.rules.specs.Uses.{opens, files, calculates, cuts, after, Use, called, returned, used, Called, Reached}
 
 module _ (s t : List ℕ) where
   pub opened : (x : Settings) → length (x .eligibility) ≡ 32 → length (x .row) ≡ 8 → t ≡ openCall s x .bytes → Called s t
@@ -48,7 +45,3 @@ once s t (inr (u, e)) = (u ∷ [], e)
 
 pub onward : (s t z : List ℕ) → Reached s t → Reached t z → Reached s z
 onward s t z (us, e) (vs, f) = (us ++ vs, f ∙ ap (λ r. used r vs) e ∙ sym (used-on s us vs))
-
--- from an issued or standing state the desk leads to no other
-pub never-elsewhere : (s t : List ℕ) → IssuedOrStanding s → Reached s t → IssuedOrStanding t
-never-elsewhere s t K (us, e) = rw e (never-astray s K us)

@@ -1,6 +1,6 @@
 // The calls on an auction, and the suggested volume. A call that changes the state is made on a copy of it: a line leaves the state
 // as it was, or as one call does.
-ghost use Rattle.boxed.specs.Called.{Called};
+ghost use Rattle.rules.specs.Uses.{Called};
 use asked::One;
 use asked::Revised;
 use asked::draw_of;

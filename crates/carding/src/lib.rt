@@ -1,5 +1,5 @@
 // The commands that write, read and file cards.
-ghost use Rattle.boxed.specs.Called.{Called};
+ghost use Rattle.rules.specs.Uses.{Called};
 use asked::One;
 use asked::groups;
 use asked::lines_of;

@@ -11,7 +11,7 @@ use Rattle.rules.specs.declared.Auction.{Auction}
 use Rattle.rules.specs.Bid.{hasFiled}
 use Rattle.rules.specs.Calls.{toFile}
 use Rattle.rules.specs.Stands.{Stands}
-use Rattle.rules.proofs.Standing.{filed-in-use}
+use Rattle.rules.proofs.Legal.{filed-in-use}
 
 -- a number whose bits from n on are 0 is below 2 to the n
 under : (x n w : ℕ) → x < 2 ^ (n + w) → ((i : ℕ) → n ≤ i → i < n + w → x / 2 ^ i % 2 ≡ 0) → x < 2 ^ n

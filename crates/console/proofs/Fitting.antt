@@ -8,7 +8,7 @@ use borrow.Author.Tests.{ltb-true}
 use lib.Count.{ones}
 use lib.Dec.{ltb}
 use Rattle.rules.specs.declared.Tranches.{Tranches}
-use Rattle.rules.specs.Standing.{isOpen}
+use Rattle.rules.specs.Legal.{isOpen}
 use Rattle.rules.specs.Cutback.{mayCut}
 use Rattle.rules.specs.Layout.{loaded}
 use Rattle.rules.specs.Calls.{bidderNumber, cutNumber}

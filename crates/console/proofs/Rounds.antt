@@ -8,7 +8,7 @@ use borrow.Author.Tests.{ne-eqb}
 use Rattle.rules.specs.declared.Calculation.the-variants.{Done, Refused}
 use Rattle.rules.specs.Round.{drawFits}
 use Rattle.rules.specs.Layout.{loaded}
-use Rattle.rules.specs.Standing.{isOpen}
+use Rattle.rules.specs.Legal.{isOpen}
 use Rattle.rules.specs.Calls.{drawNumber, calculateNumber, calculateCall}
 use Rattle.rules.proofs.Storing.{Bytes, loaded-bits}
 use Rattle.round.specs.declared.Tally.{Tally}

@@ -25,7 +25,7 @@ use Rattle.rules.proofs.Parts.{prices-ext, free-ext}
 use Rattle.rules.proofs.Priorities.{sum-const}
 use Rattle.rules.proofs.Storing.{stored-long, loaded-long}
 use Rattle.rules.proofs.Fitting.{bidder-small, record-small}
-use Rattle.rules.proofs.Cutback.{reduced-loads}
+use Rattle.rules.proofs.Reduced.{reduced-loads}
 use Rattle.book.specs.Lent.{Counts, Lent}
 use Rattle.rules.specs.Parts.{tranchesAt, auction, withPhase, withLimits, withPrices, withFree, withRecords}
 use Rattle.storing.specs.Written.{Writes, amountAt, recordsIn}
@@ -79,7 +79,7 @@ module _ (s : List ℕ) (targets caps : List Tranches) (C : Cutting s targets ca
   -- z are the bytes of the reduced book
   module _ {z : List ℕ} (e : z ≡ stored (reduced a targets caps)) where
     back : loaded z ≡ reduced a targets caps
-    back = ap loaded e ∙ reduced-loads a targets caps (C .stands) (C .bidding) (C .may) (loaded-long s) (C .bits)
+    back = ap loaded e ∙ reduced-loads a targets caps (C .stands) (C .may) (loaded-long s) (C .bits)
 
     counts : Counts (reduced a targets caps)
     unfolding reduced revised

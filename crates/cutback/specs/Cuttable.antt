@@ -8,7 +8,7 @@ use Rattle.rules.specs.declared.Auction.{Auction}
 use Rattle.rules.specs.Count.{sumUpTo}
 use Rattle.rules.specs.Held.{goingIn, freeOf}
 use Rattle.rules.specs.Bid.{recordOf}
-use Rattle.rules.specs.Standing.{isOpen}
+use Rattle.rules.specs.Legal.{isOpen}
 use Rattle.rules.specs.Stands.{Stands}
 use Rattle.rules.specs.Cutback.{mayCut}
 use Rattle.rules.specs.Layout.{loaded}

@@ -5,7 +5,7 @@ use Prim.Native.Nat.{ℕ, _≤_, _<_}
 use lib.ListN.{getD}
 use Rattle.rules.specs.declared.Auction.{Auction}
 use Rattle.rules.specs.Held.{held}
-use Rattle.rules.specs.Standing.{keptOn}
+use Rattle.rules.specs.Legal.{keptOn}
 use Rattle.rules.specs.Layout.{loaded}
 use Rattle.book.specs.Lent.{Lent}
 

@@ -12,7 +12,7 @@ use Rattle.rules.specs.Count.{sumUpTo, allUpTo}
 use Rattle.rules.specs.Settings.{setup, capOf}
 use Rattle.rules.specs.Held.{heldIn, keptIn, recordAt, held, place}
 use Rattle.rules.specs.Bid.{recordOf, priceAt, beforeAt}
-use Rattle.rules.specs.Standing.{recordZero, recordWithin, recordStands}
+use Rattle.rules.specs.Legal.{recordZero, recordWithin, recordStands}
 use Rattle.rules.proofs.Lists.{all-give, all-take}
 use Rattle.held.proofs.Passed.{Passed, none-passed, one-passed}
 

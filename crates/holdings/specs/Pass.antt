@@ -4,7 +4,7 @@ use Prim.Native.Nat.{ℕ, _≤_}
 use Rattle.rules.specs.declared.Auction.{Auction}
 use Rattle.rules.specs.Count.{allUpTo}
 use Rattle.rules.specs.Held.{place}
-use Rattle.rules.specs.Standing.{keptOn, recordStands}
+use Rattle.rules.specs.Legal.{keptOn, recordStands}
 use Rattle.held.specs.Sums.{heldOn, AllHeld, AllKept}
 use Rattle.holdings.specs.declared.Column.{Column}
 use Rattle.holdings.specs.declared.Columns.{Columns}

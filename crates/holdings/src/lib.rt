@@ -8,7 +8,7 @@ ghost use Rattle.rules.specs.Count.{allUpTo};
 ghost use Rattle.rules.specs.Units.{amountOf};
 ghost use Rattle.rules.specs.Settings.{setup, targetOf};
 ghost use Rattle.rules.specs.Held.{ticked};
-ghost use Rattle.rules.specs.Standing.{implies, isOpen, keptOn, productStands, recordZero, recordWithin, bidderStands};
+ghost use Rattle.rules.specs.Legal.{implies, isOpen, keptOn, productStands, recordZero, recordWithin, bidderStands};
 ghost use Rattle.rules.specs.Layout.{loaded};
 ghost use Rattle.book.specs.Lent.{Lent};
 ghost use Rattle.held.specs.Sums.{heldOn, Counted};

@@ -9,7 +9,7 @@ use Rattle.rules.specs.Settings.{setup, capOf}
 use Rattle.rules.specs.Card.{noLine}
 use Rattle.rules.specs.Held.{place, ticked, freeOf}
 use Rattle.rules.specs.Bid.{recordOf, priceAt, beforeAt, onProduct, hasFiled, slotOf, defaultLine, bidOn}
-use Rattle.rules.specs.Standing.{isOpen}
+use Rattle.rules.specs.Legal.{isOpen}
 use Rattle.rules.proofs.Lists.{list-at}
 use Rattle.rules.proofs.Tests.{told}
 use Rattle.rules.specs.Stands.{Stands, Accepted}

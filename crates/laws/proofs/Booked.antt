@@ -21,12 +21,12 @@ use Rattle.rules.specs.Bid.{bidIn, withdrawnIn, reduction, increase, recordOf, 
 use Rattle.rules.specs.Accept.{placeAt, acceptedAll, heldOf, keptOf, movingOf, riseOf, column, rowOf, every}
 use Rattle.rules.specs.Outbid.{outbid, deemedUpTo}
 use Rattle.rules.specs.Round.{drawn, drawFits, afterStep2, afterStep4}
-use Rattle.rules.specs.Standing.{keptOn, isOpen}
+use Rattle.rules.specs.Legal.{keptOn, isOpen}
 use Rattle.rules.proofs.Sums.{sum-ext, sum-le, sum-six, sum-ge, sum-add, sum-zero}
 use Rattle.rules.proofs.Lists.{clash}
 use Rattle.rules.proofs.Signed.{above-true, above-false}
 use Rattle.rules.proofs.Tests.{told}
-use Rattle.rules.proofs.Standing.{first-none}
+use Rattle.rules.proofs.Legal.{first-none}
 use Rattle.rules.specs.Stands.{Stands, Long}
 use Rattle.rules.proofs.Places.{goingOf, deniedOf, retainedOf, exitOf, worthOf}
 use Rattle.rules.proofs.Keep.{Moved, Ended, kept-all-ends, kept-met}

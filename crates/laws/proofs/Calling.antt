@@ -16,7 +16,7 @@ use Rattle.rules.specs.declared.Auction.{Auction}
 use Rattle.rules.specs.Settings.{settingsFit, setup, setupOf, itemOf, productAt}
 use Rattle.rules.specs.Card.{noLine, lineZero, lineAt, lineBit, countFits, filled, cardLength, readLines, readRefused, bidOf, readCard}
 use Rattle.rules.specs.Bid.{onProduct, judged}
-use Rattle.rules.specs.Standing.{isOpen, zeroFrom}
+use Rattle.rules.specs.Legal.{isOpen, zeroFrom}
 use Rattle.rules.specs.Layout.{stored, loaded}
 use Rattle.rules.specs.Calls.{opened, bidNumber, cardNumber, bidderOn, afterCard}
 use Rattle.rules.proofs.Lists.{all-give, list-long}

@@ -10,7 +10,7 @@ use Rattle.rules.specs.declared.Auction.{Auction}
 use Rattle.rules.specs.Settings.{setup, targetOf, capOf}
 use Rattle.rules.specs.Held.{goingIn, held, ticked, freeOf}
 use Rattle.rules.specs.Bid.{bidIn, withdrawnIn, exitOn, reduction, increases, recordOf, priceAt, beforeAt, defaultLine}
-use Rattle.rules.specs.Standing.{isOpen}
+use Rattle.rules.specs.Legal.{isOpen}
 use Rattle.rules.proofs.Sums.{sum-ext, sum-le, sum-zero}
 use Rattle.rules.proofs.Lists.{all-give, clash}
 use Rattle.rules.proofs.Signed.{above-true}

@@ -15,7 +15,7 @@ use Rattle.rules.specs.declared.Auction.{Auction}
 use Rattle.rules.specs.Card.{noLine}
 use Rattle.rules.specs.Held.{place}
 use Rattle.rules.specs.Bid.{judged, hasFiled, slotOf}
-use Rattle.rules.specs.Standing.{isOpen, zeroFrom, slotStands}
+use Rattle.rules.specs.Legal.{isOpen, zeroFrom, slotStands}
 use Rattle.rules.specs.Calls.{withCard}
 use Rattle.rules.proofs.Lists.{list-ext, list-is}
 use Rattle.rules.specs.Stands.{Long, Stands}

@@ -7,7 +7,9 @@ pub mod Outbidding
 pub mod Made
 pub mod Draw
 pub mod Booked
+pub mod Prices
 pub mod Settled
 pub mod Round
+pub mod Cutback
 pub mod OneCall
 pub mod Spare

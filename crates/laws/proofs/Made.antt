@@ -15,7 +15,7 @@ use Rattle.rules.specs.Card.{noLine, lineZero}
 use Rattle.rules.specs.Held.{goingIn, deniedIn, retainedIn, exitIn, heldIn, held, ticked, freeOf}
 use Rattle.rules.specs.Bid.{bidIn, withdrawnIn, exitOn, reduction, increase, recordOf, priceAt, beforeAt, onProduct, judged, hasFiled, slotOf, defaultLine, bidOn}
 use Rattle.rules.specs.Accept.{nowhere, placeAt, accepted, acceptedAll, heldOf, keptOf, leftOf, leavingOf, leavingAt, movingOf, riseOf, column, rowOf}
-use Rattle.rules.specs.Standing.{keptOn, recordZero, zeroFrom}
+use Rattle.rules.specs.Legal.{keptOn, recordZero, zeroFrom}
 use Rattle.rules.proofs.Sums.{sum-ext, sum-six, sum-zero, and-left, and-right}
 use Rattle.rules.proofs.Lists.{all-take, list-at, list-long}
 use Rattle.rules.proofs.Signed.{above-true}

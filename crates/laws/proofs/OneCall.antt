@@ -14,19 +14,19 @@ use Rattle.rules.specs.declared.Auction.{Auction}
 use Rattle.rules.specs.declared.Outbid.{Outbid}
 use Rattle.rules.specs.declared.Calculated.{Calculated}
 use Rattle.rules.specs.declared.Calculation.the-variants as calculation
-use Rattle.rules.specs.Answers.{Outcome, outcome, Leaves, Gives, said, answerOf, calculationSaid, unlessRefused, closed, stopped}
+use Rattle.rules.specs.Answers.{outcome, said, answerOf, calculationSaid, unlessRefused, closed, stopped}
 use Rattle.rules.specs.Settings.{settingsFit, setup, setupOf}
-use Rattle.rules.specs.OneCall.{StandsIn, RefusedSame, FiledOnly, CutOnly, CutPrice}
+use Rattle.laws.specs.OneCall.{StandsIn, RefusedSame, FiledOnly, CutOnly, CutPrice}
 use Rattle.rules.specs.Held.{excess}
 use Rattle.rules.specs.Round.{drawFits, afterStep2, afterStep4, atRest, onward, stops, settled, calculated}
 use Rattle.rules.specs.Cutback.{mayCut, cutBack, suggestedVolume, suggestedNumber}
 use Rattle.rules.specs.Layout.{stateLength, stored, loaded, allZero}
-use Rattle.rules.specs.Standing.{isOpen, stands}
+use Rattle.rules.specs.Legal.{isOpen, stands}
 use Rattle.rules.specs.Card.{readCard, cardOf, writeNumber, writeCard}
 use Rattle.rules.specs.Calls.{opened, openNumber, openCall, ofState, cardNumber, fileNumber, bidderOn, afterCard, fileCall, countNumber, drawNumber, calculateNumber, calculationDone, calculateCall, cutNumber, cutbackNumber, cutbackCall, reportNumber, resultNumber, returnNumber, returnCall}
 use Rattle.rules.proofs.Lists.{clash, all-give, all-take}
 use Rattle.rules.specs.Stands.{Stands}
-use Rattle.rules.proofs.Standing.{stands-take, stands-give}
+use Rattle.rules.proofs.Legal.{stands-take, stands-give}
 use Rattle.laws.proofs.Bids.{bids-accepted}
 use Rattle.laws.proofs.Opening.{blank}
 use Rattle.laws.proofs.Filing.{slot-filed, slot-other, bit-filed, bit-other}
@@ -34,7 +34,7 @@ use Rattle.rules.proofs.Storing.{stored-long, loaded-long, loaded-bits, stored-
 use Rattle.rules.proofs.Fitting.{phase-small, standing-loads}
 use Rattle.laws.proofs.Calling.{granted, opens, opens-loads, opens-setup, read-long, file-take, files, files-loads}
 use Rattle.laws.proofs.Round.{round-stands, round-long}
-use Rattle.rules.proofs.Cutback.{cut-stands, cut-long, cut-only, cut-price}
+use Rattle.laws.proofs.Cutback.{cut-stands, cut-long, cut-only, cut-price}
 
 -- ---- standing
 

@@ -15,13 +15,13 @@ use Rattle.rules.specs.Settings.{noItem, itemIn, setup, withinLimits, targetOf,
 use Rattle.rules.specs.Card.{noLine}
 use Rattle.rules.specs.Held.{nothing, retainedIn, heldIn, keptIn, recordAt, held, place, freeOf}
 use Rattle.rules.specs.Bid.{recordOf, priceAt, beforeAt, onProduct, hasFiled, slotOf}
-use Rattle.rules.specs.Standing.{keptOn, slotStands, phaseStands, stands}
+use Rattle.rules.specs.Legal.{keptOn, slotStands, phaseStands}
 use Rattle.rules.specs.Calls.{opened}
 use Rattle.rules.proofs.Sums.{sum-ext, sum-zero}
 use Rattle.rules.proofs.Lists.{both, all-give, list-at, list-is, list-long}
 use Rattle.rules.specs.Stands.{Long, Stands}
 use Rattle.rules.proofs.Parts.{initial-is}
-use Rattle.rules.proofs.Standing.{limits-take}
+use Rattle.rules.proofs.Legal.{limits-take}
 
 -- a list of one thing has it everywhere
 pub blank : {A : Type 0} (x : A) (n k : ℕ) → getD (replicate n x) k x ≡ x

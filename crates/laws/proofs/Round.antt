@@ -18,7 +18,7 @@ use Rattle.rules.specs.Accept.{placeAt, acceptedAll, keptOf, riseOf, deem, colu
 use Rattle.rules.specs.Outbid.{deemIf, deemedUpTo}
 use Rattle.rules.specs.Round.{drawFits, atRest, afterStep2, afterStep4, settled, calculated}
 use Rattle.rules.specs.Layout.{stored, loaded}
-use Rattle.rules.specs.Standing.{keptOn, isOpen}
+use Rattle.rules.specs.Legal.{keptOn, isOpen}
 use Rattle.laws.specs.Counted.{keptWhereTicked, deemedAt, CountsOutbid}
 use Rattle.rules.proofs.Sums.{sum-ext, sum-six, sum-zero}
 use Rattle.rules.specs.Stands.{Stands, Long}
@@ -26,7 +26,7 @@ use Rattle.rules.proofs.Places.{goingOf}
 use Rattle.laws.proofs.Outbidding.{deemed-exact}
 use Rattle.laws.proofs.Made.{AllAccepted, made-none}
 use Rattle.laws.proofs.Booked.{Booked, kept-end, out-end, trail, unticked, kept-ticked, booked}
-use Rattle.rules.specs.OneCall.{PriceAfter}
+use Rattle.laws.specs.OneCall.{PriceAfter}
 use Rattle.laws.proofs.Settled.{Closes, settled-stands, settled-long, settled-prices, settled-closes, settled-setup, settled-held, settled-kept, settled-record, settled-eligibility, rest-loads}
 
 module _ (a : Auction) (draw : List ℕ) (S : Stands a) (L : Long a) (op : isOpen a ≡ true)

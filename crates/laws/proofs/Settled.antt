@@ -22,17 +22,17 @@ use Rattle.rules.specs.Held.{nothing, goingIn, deniedIn, retainedIn, exitIn, he
 use Rattle.rules.specs.Bid.{bidIn, recordOf, priceAt, beforeAt, onProduct, slotOf, bidOn}
 use Rattle.rules.specs.Accept.{placeAt, heldOf, keptOf, column, rowOf}
 use Rattle.rules.specs.Round.{atRest, priceNext, beforeNext, onward, atBottom, stops, settled}
-use Rattle.rules.specs.Standing.{keptOn, recordZero, slotStands, phaseStands}
+use Rattle.rules.specs.Legal.{keptOn, recordZero, slotStands, phaseStands}
 use Rattle.rules.proofs.Sums.{sum-ext, sum-le, sum-ge, sum-add}
 use Rattle.rules.proofs.Lists.{clash, both, all-give, list-at, list-long}
 use Rattle.rules.proofs.Signed.{above-zero}
-use Rattle.rules.proofs.Standing.{later-open}
+use Rattle.rules.proofs.Legal.{later-open}
 use Rattle.rules.specs.Stands.{Stands, Long}
 use Rattle.rules.proofs.Places.{worthOf}
 use Rattle.laws.proofs.Made.{NoRecord}
 use Rattle.laws.proofs.Booked.{Booked}
-use Rattle.rules.specs.OneCall.{PriceAfter}
-use Rattle.rules.proofs.Prices.{cond-false, Priced, next, next-none}
+use Rattle.laws.specs.OneCall.{PriceAfter}
+use Rattle.laws.proofs.Prices.{cond-false, Priced, next, next-none}
 use Rattle.rules.proofs.Parts.{excess-same, price-anew, before-anew, prices-setup, free-anew, free-setup}
 use Rattle.rules.specs.Layout.{stored, loaded}
 use Rattle.rules.proofs.Storing.{Fits, loads}

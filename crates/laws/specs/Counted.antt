@@ -7,7 +7,7 @@ use Rattle.rules.specs.declared.Auction.{Auction}
 use Rattle.rules.specs.Count.{sumUpTo}
 use Rattle.rules.specs.Held.{goingIn, deniedIn, ticked}
 use Rattle.rules.specs.Bid.{recordOf}
-use Rattle.rules.specs.Standing.{keptOn}
+use Rattle.rules.specs.Legal.{keptOn}
 
 -- "the kept tranches now on products that had ticked": a before the calculation, z after it
 abbrev pub keptWhereTicked : Auction → Auction → ℕ

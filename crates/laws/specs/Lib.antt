@@ -1,1 +1,2 @@
+pub mod OneCall
 pub mod Counted

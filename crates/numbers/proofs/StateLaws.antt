@@ -9,10 +9,10 @@ use lib.ListN.{length}
 use lib.Dec.{eqb}
 use Rattle.rules.specs.declared.Auction.{Auction}
 use Rattle.rules.specs.Layout.{stateLength, loaded, allZero}
-use Rattle.rules.specs.Standing.{stands}
+use Rattle.rules.specs.Legal.{stands}
 use Rattle.rules.specs.Calls.{ofState}
 use Rattle.rules.specs.Stands.{Stands}
-use Rattle.rules.proofs.Standing.{stands-take}
+use Rattle.rules.proofs.Legal.{stands-take}
 use Rattle.book.specs.Lent.{Lent}
 use Rattle.numbers.specs.State.{stateNumber}
 

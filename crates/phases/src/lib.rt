@@ -8,7 +8,7 @@ ghost use Rattle.rules.specs.Count.{allUpTo};
 ghost use Rattle.rules.specs.Settings.{setup, startOf, initialOf};
 ghost use Rattle.rules.specs.Held.{freeOf, recordAt};
 ghost use Rattle.rules.specs.Bid.{priceAt, beforeAt};
-ghost use Rattle.rules.specs.Standing.{recordZero, asOpened, nothingKept, openStands, endStands, phaseStands};
+ghost use Rattle.rules.specs.Legal.{recordZero, asOpened, nothingKept, openStands, endStands, phaseStands};
 ghost use Rattle.rules.specs.Layout.{loaded};
 ghost use Rattle.book.specs.Lent.{Long, Lent};
 ghost use Rattle.held.specs.Sums.{AllKept, Summed, Counted};

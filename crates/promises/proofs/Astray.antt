@@ -12,8 +12,8 @@ use Rattle.rules.specs.declared.Settings.{Settings}
 use Rattle.rules.specs.Layout.{stateLength}
 use Rattle.rules.specs.Calls.{openNumber, openCall, returnCall}
 use Rattle.laws.proofs.OneCall.{issued-not-standing, open-refused, file-refused, calculate-refused, cutback-refused, return-issued, open-stands}
-use Rattle.promises.specs.Runs.{Call, opens, files, counts, calculates, cuts, reports, results, reads, writes, suggests, after}
-use Rattle.promises.specs.Hires.{Issued, IssuedOrStanding, Sized, Use, called, returned, used}
+use Rattle.rules.specs.Uses.{Call, opens, files, counts, calculates, cuts, reports, results, reads, writes, suggests, after, Sized, Use, called, returned, used, Reached}
+use Rattle.promises.specs.Hires.{Issued, IssuedOrStanding}
 use Rattle.promises.proofs.Steps.{after-stands}
 
 module _ (s : List ℕ) (I : Issued s) where
@@ -62,3 +62,7 @@ pub never-astray : (s : List ℕ) → IssuedOrStanding s → (us : List Use) →
 never-astray s K [] = K
 never-astray s K (called c h ∷ us) = never-astray (after s c) (call-keeps s K c h) us
 never-astray s K (returned ∷ us) = never-astray (returnCall s .bytes) (inl (return-keeps s (long-of s K))) us
+
+-- from an issued or standing state calls and returns lead to no other
+pub never-elsewhere : (s t : List ℕ) → IssuedOrStanding s → Reached s t → IssuedOrStanding t
+never-elsewhere s t K (us, e) = rw e (never-astray s K us)

@@ -21,7 +21,7 @@ use Rattle.rules.specs.Report.{paidOn, resultOf}
 use Rattle.rules.specs.Round.{calculated}
 use Rattle.rules.specs.Cutback.{cutBack}
 use Rattle.rules.specs.Layout.{loaded}
-use Rattle.rules.specs.Standing.{isOpen}
+use Rattle.rules.specs.Legal.{isOpen}
 use Rattle.rules.specs.Calls.{opened, openNumber, cardNumber, withCard, calculateNumber, closedNumber, resultNumber, resultCall}
 use Rattle.rules.proofs.Sums.{sum-ext}
 use Rattle.rules.proofs.Lists.{clash, list-at}
@@ -29,11 +29,12 @@ use Rattle.rules.proofs.Storing.{loaded-long}
 use Rattle.laws.proofs.Bids.{bids-accepted}
 use Rattle.laws.proofs.Calling.{granted}
 use Rattle.laws.proofs.Round.{round-closes}
-use Rattle.rules.proofs.Cutback.{cut-only}
+use Rattle.laws.proofs.Cutback.{cut-only}
 use Rattle.rules.specs.Stands.{Stands}
-use Rattle.rules.specs.OneCall.{StandsIn}
+use Rattle.laws.specs.OneCall.{StandsIn}
 use Rattle.laws.proofs.OneCall.{stood, of-standing, open-stands, open-loaded, open-standing, file-refused, calculate-accepts, calculate-loaded, calculate-refused, cutback-accepts, cutback-refused}
-use Rattle.promises.specs.Runs.{Call, opens, files, counts, calculates, cuts, reports, results, reads, writes, suggests, after, run, openedBy, filledPart, Round, roundOf, Cutback, cutbacks, settingsAfter}
+use Rattle.rules.specs.Uses.{Call, opens, files, counts, calculates, cuts, reports, results, reads, writes, suggests, after}
+use Rattle.promises.specs.Runs.{run, openedBy, filledPart, Round, roundOf, Cutback, cutbacks, settingsAfter}
 use Rattle.promises.specs.Awards.{Closed, awardOn, paidFor}
 use Rattle.promises.proofs.Offers.{closed-within}
 use Rattle.promises.proofs.Steps.{Step, same, card, round, cut, step, some-none, after-stands, run-later, run-keeps, parts-later, opened-stands, opened-settings, opened-terms, in-use}

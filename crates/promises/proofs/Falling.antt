@@ -15,15 +15,16 @@ use Rattle.rules.specs.Held.{held}
 use Rattle.rules.specs.Bid.{priceAt, beforeAt}
 use Rattle.rules.specs.Round.{calculated}
 use Rattle.rules.specs.Layout.{loaded}
-use Rattle.rules.specs.Standing.{isOpen}
+use Rattle.rules.specs.Legal.{isOpen}
 use Rattle.rules.specs.Calls.{openNumber, withCard, calculateNumber, calculateCall}
 use Rattle.rules.specs.Stands.{Stands, Long}
 use Rattle.rules.proofs.Storing.{loaded-long}
 use Rattle.laws.proofs.Bids.{bids-accepted}
-use Rattle.rules.specs.OneCall.{PriceAfter, StandsIn}
+use Rattle.laws.specs.OneCall.{PriceAfter, StandsIn}
 use Rattle.laws.proofs.Round.{round-prices}
 use Rattle.laws.proofs.OneCall.{stood, open-stands, calculate-accepts, calculate-loaded}
-use Rattle.promises.specs.Runs.{Call, after, run, openedBy, Round, Cutback, cutbackOf, cutbacks}
+use Rattle.rules.specs.Uses.{Call, after}
+use Rattle.promises.specs.Runs.{run, openedBy, Round, Cutback, cutbackOf, cutbacks}
 use Rattle.promises.proofs.Steps.{Step, same, card, round, cut, step, some-none, opened-stands, opened-settings, opened-keeps, in-use, parts-later}
 
 -- ---- one calculation

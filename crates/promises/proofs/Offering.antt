@@ -23,10 +23,11 @@ use Rattle.rules.proofs.Storing.{loaded-long}
 use Rattle.laws.proofs.Opening.{blank, opened-free}
 use Rattle.laws.proofs.Bids.{bids-accepted}
 use Rattle.laws.proofs.Round.{round-setup, round-eligibility}
-use Rattle.rules.proofs.Cutback.{cut-only}
-use Rattle.rules.specs.OneCall.{StandsIn}
+use Rattle.laws.proofs.Cutback.{cut-only}
+use Rattle.laws.specs.OneCall.{StandsIn}
 use Rattle.laws.proofs.OneCall.{stood, open-stands, open-loaded}
-use Rattle.promises.specs.Runs.{Call, after, run, openedBy, Round, roundOf, rounds, Cutback}
+use Rattle.rules.specs.Uses.{Call, after}
+use Rattle.promises.specs.Runs.{run, openedBy, Round, roundOf, rounds, Cutback}
 use Rattle.promises.specs.Offered.{OnOffer, noOffer, offeredFrom, onOffer, inRounds, givenUp, withdrawnIn}
 use Rattle.promises.specs.Awards.{Closed, awardOn}
 use Rattle.promises.specs.Demands.{AwardOffered, AwardedOnce}

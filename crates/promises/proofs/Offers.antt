@@ -18,7 +18,7 @@ use Rattle.rules.specs.Outbid.{deemIf, deemedUpTo}
 use Rattle.rules.specs.Round.{drawFits, afterStep2, afterStep4, calculated}
 use Rattle.rules.specs.Report.{highestIn, highestUpTo, paidOn}
 use Rattle.rules.specs.Cutback.{mayCut, revised, cutBack}
-use Rattle.rules.specs.Standing.{isOpen, openStands}
+use Rattle.rules.specs.Legal.{isOpen, openStands}
 use Rattle.rules.specs.Stands.{Stands, Long}
 use Rattle.rules.proofs.Sums.{sum-ge, and-right}
 use Rattle.rules.proofs.Signed.{above-zero}
@@ -28,7 +28,7 @@ use Rattle.laws.proofs.Made.{AllAccepted}
 use Rattle.laws.proofs.Booked.{Booked, kept-end, trail, unticked, fresh, booked}
 use Rattle.laws.proofs.Settled.{settled-held, settled-record}
 use Rattle.laws.proofs.Round.{round-setup, round-prices}
-use Rattle.rules.proofs.Cutback.{cut-only, cut-price}
+use Rattle.laws.proofs.Cutback.{cut-only, cut-price}
 use Rattle.promises.specs.Runs.{Round}
 use Rattle.promises.specs.Offered.{OnOffer, increaseLeft, offeringBy, offering}
 

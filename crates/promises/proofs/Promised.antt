@@ -13,7 +13,8 @@ use Rattle.rules.specs.Bid.{recordOf}
 use Rattle.rules.specs.Layout.{loaded}
 use Rattle.rules.specs.Calls.{openNumber}
 use Rattle.laws.proofs.OneCall.{stood, open-stands}
-use Rattle.promises.specs.Runs.{Call, run, openedBy, filledPart, cutbacks, settingsAfter}
+use Rattle.rules.specs.Uses.{Call}
+use Rattle.promises.specs.Runs.{run, openedBy, filledPart, cutbacks, settingsAfter}
 use Rattle.promises.proofs.Steps.{opened-stands, opened-settings, opened-terms, opened-keeps, in-use, bidding, parts-later}
 
 module _ (s : List ℕ) (x : Settings) (new : openNumber s x ≡ 0) (e : length (x .eligibility) ≡ 32) (r : length (x .row) ≡ 8)

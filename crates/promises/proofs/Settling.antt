@@ -19,7 +19,6 @@ use Rattle.rules.specs.declared.Awarded.{Awarded}
 use Rattle.rules.specs.declared.CardRead.{CardRead}
 use Rattle.rules.specs.declared.Volume.{Volume}
 use Rattle.rules.specs.Answers.{Leaves, Gives, outcome, said, calculationSaid}
-use Rattle.rules.specs.Held.{ticked}
 use Rattle.rules.specs.Round.{calculated}
 use Rattle.rules.specs.Layout.{loaded}
 use Rattle.rules.specs.Calls.{openCall, fileCall, countCall, calculateNumber, calculationDone, calculateCall, cutbackCall, reportCall, resultCall, returnCall, readCall, writeCall, suggestedCall}
@@ -27,7 +26,7 @@ use Rattle.rules.proofs.Storing.{loaded-long}
 use Rattle.laws.proofs.Bids.{bids-accepted}
 use Rattle.laws.specs.Counted.{keptWhereTicked, CountsOutbid}
 use Rattle.laws.proofs.Round.{round-kept, round-outbid}
-use Rattle.rules.specs.OneCall.{StandsIn}
+use Rattle.laws.specs.OneCall.{StandsIn}
 use Rattle.rules.proofs.Settling.{leaves-one, gives-one}
 use Rattle.laws.proofs.OneCall.{stood, calculate-accepts, calculate-loaded}
 

@@ -18,16 +18,18 @@ use Rattle.rules.specs.Bid.{priceAt}
 use Rattle.rules.specs.Round.{drawFits, calculated}
 use Rattle.rules.specs.Cutback.{mayCut, revised, cutBack}
 use Rattle.rules.specs.Layout.{loaded}
-use Rattle.rules.specs.Standing.{isOpen}
+use Rattle.rules.specs.Legal.{isOpen}
 use Rattle.rules.specs.Calls.{openNumber, fileNumber, fileCall, withCard, calculateNumber, calculateCall, cutbackNumber, cutbackCall}
 use Rattle.rules.specs.Stands.{Stands, Long}
 use Rattle.rules.proofs.Storing.{loaded-long}
 use Rattle.laws.proofs.Bids.{bids-accepted}
 use Rattle.laws.proofs.Round.{round-setup, round-filled, round-prices}
-use Rattle.rules.proofs.Cutback.{revised-target, revised-cap, revised-start, cut-numbers, cut-only}
-use Rattle.rules.specs.OneCall.{StandsIn}
+use Rattle.rules.proofs.Reduced.{revised-target, revised-cap, revised-start, cut-numbers}
+use Rattle.laws.proofs.Cutback.{cut-only}
+use Rattle.laws.specs.OneCall.{StandsIn}
 use Rattle.laws.proofs.OneCall.{stood, open-stands, open-setup, open-standing, file-loaded, file-refused, file-stands, calculate-accepts, calculate-loaded, calculate-refused, calculate-stands, cutback-accepts, cutback-loaded, cutback-refused, cutback-stands}
-use Rattle.promises.specs.Runs.{Call, opens, files, counts, calculates, cuts, reports, results, reads, writes, suggests, after, run, openedBy, filledPart, Round, roundOf, Cutback, cutbackOf, cutbacks, revisedBy, settingsAfter}
+use Rattle.rules.specs.Uses.{Call, opens, files, counts, calculates, cuts, reports, results, reads, writes, suggests, after}
+use Rattle.promises.specs.Runs.{run, openedBy, filledPart, Round, roundOf, Cutback, cutbackOf, cutbacks, revisedBy, settingsAfter}
 use Rattle.promises.specs.Demands.{KeptBut}
 
 -- ---- one call
@@ -179,8 +181,8 @@ step-keeps {a} S L (cut targets caps o m) =
       eligibility = refl;
       decrements = refl;
       start = λ p h. revised-start t targets caps p h;
-      target = λ p h. omega (arith, cut-numbers a targets caps S o m p h, revised-target t targets caps p (omega (arith, S .limits .products)));
-      cap = λ p h. omega (arith, cut-numbers a targets caps S o m p h, revised-cap t targets caps p (omega (arith, S .limits .products)));
+      target = λ p h. omega (arith, cut-numbers a targets caps S m p h, revised-target t targets caps p (omega (arith, S .limits .products)));
+      cap = λ p h. omega (arith, cut-numbers a targets caps S m p h, revised-cap t targets caps p (omega (arith, S .limits .products)));
     })
 
 -- ---- a run of calls

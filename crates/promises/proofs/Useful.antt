@@ -30,13 +30,13 @@ use Rattle.rules.specs.Round.{afterStep2, afterStep4, atRest, onward, stops, se
 use Rattle.rules.specs.Cutback.{givenFor, revised}
 use Rattle.rules.specs.Report.{reportOn, resultOf}
 use Rattle.rules.specs.Layout.{stateLength, loaded, allZero}
-use Rattle.rules.specs.Standing.{isOpen}
+use Rattle.rules.specs.Legal.{isOpen}
 use Rattle.rules.specs.Calls.{opened, openNumber, openCall, ofState, cardNumber, withCard, afterCard, fileCall, openNumberOf, countCall, drawNumber, calculateNumber, calculateCall, cutNumber, cutbackNumber, cutbackCall, bidderNumber, reportCall, closedNumber, resultCall, returnCall, readCall, writeCall, suggestedCall}
 use Rattle.rules.proofs.Lists.{clash}
 use Rattle.laws.proofs.Calling.{granted}
-use Rattle.rules.specs.OneCall.{StandsIn}
+use Rattle.laws.specs.OneCall.{StandsIn}
 use Rattle.laws.proofs.OneCall.{not-issued, of-standing, zeros, open-stands, open-loaded, open-standing, file-loaded, file-stands, calculate-accepts, calculate-loaded, calculate-stands, cutback-only, return-issued}
-use Rattle.rules.proofs.Cutback.{revised-target, revised-cap}
+use Rattle.rules.proofs.Reduced.{revised-target, revised-cap}
 use Rattle.promises.specs.Runs.{openedBy}
 use Rattle.promises.specs.Awards.{Closed}
 use Rattle.promises.proofs.Closing.{closed-gives}

@@ -10,9 +10,10 @@ use Rattle.rules.specs.Settings.{targetOf, capOf, startOf, initialOf}
 use Rattle.rules.specs.Held.{goingIn, deniedIn, retainedIn}
 use Rattle.rules.specs.Bid.{bidIn, recordOf, bidOn}
 use Rattle.rules.specs.Layout.{loaded}
-use Rattle.rules.specs.Standing.{isOpen}
+use Rattle.rules.specs.Legal.{isOpen}
 use Rattle.rules.specs.Calls.{calculateNumber}
-use Rattle.promises.specs.Runs.{Call, calculates, after, run, Round}
+use Rattle.rules.specs.Uses.{Call, calculates, after}
+use Rattle.promises.specs.Runs.{run, Round}
 use Rattle.promises.specs.Offered.{onOffer, inRounds, givenUp, withdrawnIn}
 use Rattle.promises.specs.Awards.{Closed, awardOn, paidFor}
 

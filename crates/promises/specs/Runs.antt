@@ -4,7 +4,6 @@ use mathlib.Core.List.{List, [], _∷_, _++_}
 use Prim.Native.Nat.{ℕ, min}
 use lib.Dec.{eqb}
 use Rattle.rules.specs.declared.Tranches.{Tranches}
-use Rattle.rules.specs.declared.Line.{Line}
 use Rattle.rules.specs.declared.Settings.{Settings}
 use Rattle.rules.specs.declared.Setup.{Setup}
 use Rattle.rules.specs.declared.Auction.{Auction}
@@ -12,33 +11,8 @@ use Rattle.rules.specs.Settings.{setup, setupOf, targetOf}
 use Rattle.rules.specs.Held.{held}
 use Rattle.rules.specs.Layout.{loaded}
 use Rattle.rules.specs.Cutback.{revised}
-use Rattle.rules.specs.Calls.{openCall, fileCall, calculateCall, calculateNumber, cutbackCall, cutbackNumber}
-
--- every call but a return, with its inputs; read, write and the suggested volume are lent no state
-pub data Call : Type 0 where
-  opens : Settings → Call
-  files : List ℕ → Call
-  counts : Call
-  calculates : List ℕ → Call
-  cuts : List Tranches → List Tranches → Call
-  reports : ℕ → Call
-  results : Call
-  reads : List ℕ → ℕ → Call
-  writes : List ℕ → ℕ → ℕ → ℕ → List Line → Call
-  suggests : ℕ → ℕ → Call
-
--- the state's bytes after a call, by the call's own definition: "Its calls alone change the state's bytes."
-abbrev pub after : List ℕ → Call → List ℕ
-after s (opens x) = openCall s x .bytes
-after s (files c) = fileCall s c .bytes
-after s counts = s
-after s (calculates draw) = calculateCall s draw .bytes
-after s (cuts targets caps) = cutbackCall s targets caps .bytes
-after s (reports b) = s
-after s results = s
-after s (reads c n) = s
-after s (writes room n b r ls) = s
-after s (suggests bid ratio) = s
+use Rattle.rules.specs.Calls.{openCall, calculateNumber, cutbackNumber}
+use Rattle.rules.specs.Uses.{Call, opens, files, counts, calculates, cuts, reports, results, reads, writes, suggests, after}
 
 -- "over any calls short of a return": accepted or refused, in any order
 abbrev pub run : List ℕ → List Call → List ℕ

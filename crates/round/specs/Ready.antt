@@ -9,7 +9,7 @@ use Rattle.rules.specs.declared.Auction.{Auction}
 use Rattle.rules.specs.Answers.{stopped}
 use Rattle.rules.specs.Settings.{setup, targetOf}
 use Rattle.rules.specs.Held.{excess}
-use Rattle.rules.specs.Standing.{isOpen}
+use Rattle.rules.specs.Legal.{isOpen}
 use Rattle.rules.specs.Stands.{Stands}
 use Rattle.rules.specs.Round.{drawFits, onward, stops, calculated}
 use Rattle.rules.specs.Layout.{loaded, stored}

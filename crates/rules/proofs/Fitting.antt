@@ -15,7 +15,7 @@ use Rattle.rules.specs.Settings.{setup, targetOf, capOf, startOf, initia
 use Rattle.rules.specs.Card.{noLine, lineFits, lineZero}
 use Rattle.rules.specs.Held.{goingIn, deniedIn, retainedIn, exitIn, heldIn, recordAt, place, ticked, freeOf}
 use Rattle.rules.specs.Bid.{bidIn, withdrawnIn, exitOn, recordOf, priceAt, beforeAt, onProduct, judged, hasFiled, slotOf}
-use Rattle.rules.specs.Standing.{isOpen, recordZero, zeroFrom}
+use Rattle.rules.specs.Legal.{isOpen, recordZero, zeroFrom}
 use Rattle.rules.specs.Layout.{stored, loaded}
 use Rattle.rules.proofs.Sums.{sum-le}
 use Rattle.rules.proofs.Lists.{all-take, list-at}

@@ -6,7 +6,7 @@ pub mod Tests
 pub mod Units
 pub mod All
 pub mod Signed
-pub mod Standing
+pub mod Legal
 pub mod Judged
 pub mod Bitmap
 pub mod Storing
@@ -15,6 +15,5 @@ pub mod Fitting
 pub mod Places
 pub mod Keep
 pub mod Withdrawal
-pub mod Prices
-pub mod Cutback
+pub mod Reduced
 pub mod Settling

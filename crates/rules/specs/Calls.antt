@@ -2,7 +2,7 @@
 -- end. What a call is lent only to read (a card, a draw, the state of count, report and result) stays as it is. Assumes nothing.
 use mathlib.Core.Bool.{_&&_, cond}
 use mathlib.Core.List.{List}
-use Prim.Native.Nat.{ℕ, zero, _*_, _-_}
+use Prim.Native.Nat.{ℕ, _*_, _-_}
 use lib.ListN.{length, replicate}
 use lib.Seq.{sets}
 use lib.Count.{ones}
@@ -37,7 +37,7 @@ use Rattle.rules.specs.Round.{drawFits, calculated}
 use Rattle.rules.specs.Cutback.{mayCut, cutBack, suggestedVolume, suggestedNumber}
 use Rattle.rules.specs.Report.{reportOn, reportRefused, resultOf, resultRefused}
 use Rattle.rules.specs.Layout.{stateLength, stored, loaded, allZero}
-use Rattle.rules.specs.Standing.{isOpen, stands}
+use Rattle.rules.specs.Legal.{isOpen, stands}
 
 -- "Before round 1, g = d = r = 0 and f is the initial eligibility"; round 1 opens at the starting prices
 unfoldable pub opened : Setup → Auction

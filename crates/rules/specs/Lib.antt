@@ -16,6 +16,6 @@ pub mod Price
 pub mod Cutback
 pub mod Report
 pub mod Calls
-pub mod Standing
+pub mod Legal
 pub mod Stands
-pub mod OneCall
+pub mod Uses

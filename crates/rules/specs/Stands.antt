@@ -11,7 +11,7 @@ use Rattle.rules.specs.Count.{sumUpTo}
 use Rattle.rules.specs.Settings.{setup, withinLimits, targetOf, capOf, startOf, initialOf, percentOf, decrementOf}
 use Rattle.rules.specs.Held.{goingIn, deniedIn, retainedIn, exitIn, heldIn, recordAt, held, freeOf}
 use Rattle.rules.specs.Bid.{bidIn, withdrawnIn, exitOn, reductions, increases, wrongPriority, recordOf, priceAt, beforeAt}
-use Rattle.rules.specs.Standing.{keptOn, isOpen, recordZero, slotStands, phaseStands}
+use Rattle.rules.specs.Legal.{keptOn, isOpen, recordZero, slotStands, phaseStands}
 
 -- settings within limits
 pub record Limits (t : Setup) : Type 0 where

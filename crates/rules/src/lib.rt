@@ -6,7 +6,7 @@ ghost use Rattle.rules.specs.Units.{kwh, mwDay, unitNumber, unitOf, amou
 ghost use Rattle.rules.specs.Answers.{phaseOf};
 ghost use Rattle.rules.specs.Card.{noLine, lineFits, lineZero};
 ghost use Rattle.rules.specs.Held.{nothing, goingIn, deniedIn, retainedIn, heldIn, keptIn, retained, denied, cancelled, deemed, switchOutbid, withdrawalOutbid, setTo};
-ghost use Rattle.rules.specs.Standing.{recordZero};
+ghost use Rattle.rules.specs.Legal.{recordZero};
 ghost use Rattle.rules.specs.Accept.{leavingOf, movingOf, riseOf, retain, deny, cancel, deem, outbidSwitch, outbidWithdrawal};
 ghost use Rattle.rules.specs.Price.{fallen, priceFallen};
 ghost use Rattle.rules.specs.Report.{rangeOf};

@@ -9,7 +9,7 @@ use words::Input;
 use words::keep_rest;
 use words::next_end;
 ghost use Prim.Native.Nat.{_≤_};
-ghost use Rattle.boxed.specs.Called.{Called, Reached};
+ghost use Rattle.rules.specs.Uses.{Called, Reached};
 ghost use lib.ListN.{length};
 
 // A line, or the end of one that was too long, which is not answered again.

@@ -6,7 +6,7 @@ use Prim.Native.Nat.{ℕ}
 use Rattle.rules.specs.declared.Setup.{Setup}
 use Rattle.rules.specs.Settings.{setup, withinLimits}
 use Rattle.rules.specs.Layout.{loaded}
-use Rattle.rules.proofs.Standing.{limits-take}
+use Rattle.rules.proofs.Legal.{limits-take}
 use Rattle.book.specs.Lent.{Long, Lent}
 
 pub limits-are : (s : List ℕ) {r : Bool} {t : Setup} → r ≡ withinLimits t → t ≡ setup (loaded s) → r ≡ withinLimits (setup (loaded s))

@@ -5,7 +5,7 @@ ghost use mathlib.Core.Bool.{_&&_};
 ghost use Prim.Native.Nat.{_≤_, _<_};
 ghost use Rattle.rules.specs.Count.{allUpTo};
 ghost use Rattle.rules.specs.Bid.{slotOf};
-ghost use Rattle.rules.specs.Standing.{productStands, recordStands, bidderStands, zeroFrom, slotStands, phaseStands, stands};
+ghost use Rattle.rules.specs.Legal.{productStands, recordStands, bidderStands, zeroFrom, slotStands, phaseStands, stands};
 ghost use Rattle.rules.specs.Layout.{loaded};
 ghost use Rattle.book.specs.Lent.{Long, Lent};
 ghost use Rattle.held.specs.Sums.{Summed};

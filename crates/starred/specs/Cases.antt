@@ -24,7 +24,7 @@ use Rattle.rules.specs.Outbid.{deemedUpTo, outbidLoop}
 use Rattle.rules.specs.Price.{fallen}
 use Rattle.rules.specs.Round.{calculated}
 use Rattle.rules.specs.Report.{range, rangeOf, resultOf}
-use Rattle.rules.specs.Standing.{stands}
+use Rattle.rules.specs.Legal.{stands}
 use Rattle.rules.specs.Calls.{opened, withCard}
 
 -- ---- how a row is written

@@ -19,7 +19,7 @@ use Rattle.rules.specs.Keep.{keepLoop}
 use Rattle.rules.specs.Outbid.{deemedUpTo, outbidLoop}
 use Rattle.rules.specs.Round.{calculated}
 use Rattle.rules.specs.Cutback.{mayCut, revised, reduced, cutBack, suggestedVolume, suggestedNumber}
-use Rattle.rules.specs.Standing.{stands}
+use Rattle.rules.specs.Legal.{stands}
 use Rattle.rules.specs.Calls.{opened, withCard}
 use Rattle.starred.specs.Cases.{Case, Holds, settings, book, state, g, b, card, draw}
 use Rattle.starred.specs.Cases.Case.{round}

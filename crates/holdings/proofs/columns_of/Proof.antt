@@ -3,7 +3,7 @@ use Prim.Native.Nat.{_-_}
 use borrow.Author.Needs.{needs}
 use Rattle.rules.specs.Count.{allUpTo}
 use Rattle.rules.specs.Layout.{loaded}
-use Rattle.rules.specs.Standing.{keptOn, recordStands}
+use Rattle.rules.specs.Legal.{keptOn, recordStands}
 use Rattle.rules.proofs.Fill.{Filled, none-filled, one-more}
 use Rattle.held.proofs.Passed.{Passed, all-passed, none-passed, one-passed}
 use Rattle.held.proofs.Summing.{Summing, all-summed, filled-at, none-summed, one-summed}

@@ -1,7 +1,7 @@
 use Prim.Native.Nat.{_-_}
 use borrow.Author.Needs.{needs}
 use Rattle.rules.specs.Layout.{loaded}
-use Rattle.rules.specs.Standing.{productStands}
+use Rattle.rules.specs.Legal.{productStands}
 use Rattle.held.proofs.Passed.{Passed, all-passed, none-passed, one-passed}
 use Rattle.holdings.proofs.products_stand.Statement.{statement}
 use Rattle.holdings.proofs.products_stand.Tie as tie

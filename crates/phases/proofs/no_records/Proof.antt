@@ -3,7 +3,7 @@ use Prim.Native.Nat.{_-_}
 use borrow.Author.Needs.{needs}
 use Rattle.rules.specs.Held.{recordAt}
 use Rattle.rules.specs.Layout.{loaded}
-use Rattle.rules.specs.Standing.{recordZero}
+use Rattle.rules.specs.Legal.{recordZero}
 use Rattle.held.proofs.Passed.{Passed, all-passed, none-passed, one-passed}
 use Rattle.phases.proofs.no_records.Statement.{statement}
 use Rattle.phases.proofs.no_records.Tie as tie

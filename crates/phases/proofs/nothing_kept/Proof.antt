@@ -4,7 +4,7 @@ use native.Mathlib.Omega.{arith}
 use borrow.Author.Needs.{needs}
 use lib.Dec.{eqb}
 use Rattle.rules.specs.Layout.{loaded}
-use Rattle.rules.specs.Standing.{keptOn}
+use Rattle.rules.specs.Legal.{keptOn}
 use Rattle.held.proofs.Passed.{Passed, all-passed, none-passed, one-passed}
 use Rattle.phases.proofs.nothing_kept.Statement.{statement}
 use Rattle.phases.proofs.nothing_kept.Tie as tie

@@ -1,4 +1,4 @@
-use Rattle.boxed.specs.Called.{Reached}
+use Rattle.rules.specs.Uses.{Reached}
 use Rattle.boxed.proofs.Steps.{stays, once, onward}
 use Prim.Native.Nat.{_≤_, _-_}
 use borrow.Author.Needs.{needs}

@@ -1,4 +1,4 @@
-use Rattle.boxed.specs.Called.{Reached}
+use Rattle.rules.specs.Uses.{Reached}
 use Rattle.boxed.proofs.Steps.{stays, onward}
 use lib.ListN.{length}
 use mathlib.Core.Path.{_≡_}

@@ -1,7 +1,7 @@
 use Prim.Native.Nat.{_-_}
 use borrow.Author.Needs.{needs}
 use Rattle.rules.specs.Layout.{loaded}
-use Rattle.rules.specs.Standing.{slotStands}
+use Rattle.rules.specs.Legal.{slotStands}
 use Rattle.held.proofs.Passed.{Passed, all-passed, none-passed, one-passed}
 use Rattle.standing.proofs.slots_stand.Statement.{statement}
 use Rattle.standing.proofs.slots_stand.Tie as tie

@@ -1,5 +1,5 @@
 use borrow.Author.Needs.{needs}
-use Rattle.rules.specs.Standing.{stands}
+use Rattle.rules.specs.Legal.{stands}
 use Rattle.rules.proofs.Tests.{no, yes}
 use Rattle.standing.proofs.Limits.{lent-is, limits-are}
 use Rattle.standing.proofs.stands.Statement.{statement}

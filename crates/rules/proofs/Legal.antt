@@ -11,7 +11,7 @@ use Rattle.rules.specs.declared.Auction.{Auction}
 use Rattle.rules.specs.Settings.{setup, withinLimits, itemWithin, bidderWithin, rowWithin, leastDecrement, targetOf, capOf, startOf, percentOf}
 use Rattle.rules.specs.Held.{retainedIn, exitIn, heldIn, recordAt, held, ticked, excess}
 use Rattle.rules.specs.Bid.{recordOf, priceAt, beforeAt, hasFiled}
-use Rattle.rules.specs.Standing.{implies, keptOn, isOpen, productStands, recordZero, recordWithin, recordStands, bidderStands, slotStands, openStands, stands}
+use Rattle.rules.specs.Legal.{implies, keptOn, isOpen, productStands, recordZero, recordWithin, recordStands, bidderStands, slotStands, openStands, stands}
 use Rattle.rules.proofs.Sums.{and-left, and-right}
 use Rattle.rules.proofs.Lists.{both, all-give, all-take}
 use Rattle.rules.proofs.Signed.{above-true, lt-above}

@@ -5,19 +5,19 @@ use mathlib.Core.Logic.{_⊎_}
 use mathlib.Core.List.{List}
 use Prim.Native.Nat.{ℕ, _+_, _*_, _/_, _%_, _≤_, _<_, min}
 use lib.ListN.{length, getD}
 use Rattle.rules.specs.declared.Tranches.{Tranches}
 use Rattle.rules.specs.declared.Line.{Line}
 use Rattle.rules.specs.declared.Settings.{Settings}
 use Rattle.rules.specs.declared.Auction.{Auction}
 use Rattle.rules.specs.Count.{sumUpTo}
 use Rattle.rules.specs.Answers.{answerOf, calculationSaid, bidsOpen, stopped}
 use Rattle.rules.specs.Settings.{setup, targetOf, startOf}
 use Rattle.rules.specs.Held.{goingIn, deniedIn, retainedIn, exitIn, held, freeOf, eligibility, excess}
 use Rattle.rules.specs.Bid.{hasFiled, slotOf, recordOf, priceAt, beforeAt}
 use Rattle.rules.specs.Cutback.{givenFor, revised}
 use Rattle.rules.specs.Layout.{productsFrom, biddersFrom, rowsFrom, recordsFrom, bidsFrom, loaded, productWidth, bidderWidth, rowWidth, recordWidth, lineWidth, stateLength}
-use Rattle.rules.specs.Standing.{isOpen, stands}
+use Rattle.rules.specs.Legal.{isOpen, stands}
 use Rattle.rules.specs.Calls.{openCall, fileCall, calculateCall, cutbackCall, returnCall, writeCall}
 
 -- bytes that are a standing state
 pub record StandsIn (s : List ℕ) : Type 0 where

@@ -1,4 +1,4 @@
--- "Standing means." Assumes nothing.
+-- "Standing means": whether a state may stand, which number 2 asks. (The standing of a product is a number: Held.) Assumes nothing.
 use mathlib.Core.Bool.{Bool, true, _&&_, cond}
 use mathlib.Core.List.{List}
 use Prim.Native.Nat.{ℕ, _+_, _/_, _%_}

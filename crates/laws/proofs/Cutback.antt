@@ -6,61 +6,33 @@ use mathlib.Core.List.{List}
 use Prim.Native.Nat.{ℕ, _+_, _*_, _-_, _%_, _^_, _≤_, _<_, min}
 use native.Mathlib.Omega.{arith}
 use native.Mathlib.Nat.{zero-div}
-use borrow.Author.Tests.{eqb-false, ne-eqb, ltb-true, ltb-false, lt-ltb, le-ltb}
+use borrow.Author.Tests.{eqb-false, ne-eqb, ltb-true, ltb-false, lt-ltb}
 use lib.ListN.{length, getD}
 use lib.Dec.{eqb, ltb}
 use Rattle.rules.specs.declared.Tranches.{Tranches}
 use Rattle.rules.specs.declared.Record.{Record}
 use Rattle.rules.specs.declared.Lane.{Lane}
 use Rattle.rules.specs.declared.Setup.{Setup}
 use Rattle.rules.specs.declared.Auction.{Auction}
 use Rattle.rules.specs.Count.{sumUpTo}
 use Rattle.rules.specs.Answers.{bidsOpen, stopped}
-use Rattle.rules.specs.Parts.{noLane, laneAt, limited, withPhase, withLanes, withPrices, withLimits, withFree}
-use Rattle.rules.specs.Settings.{setup, item, noItem, itemIn, withinLimits, itemWithin, targetOf, capOf, startOf, initialOf}
-use Rattle.rules.specs.Held.{nothing, goingIn, deniedIn, retainedIn, exitIn, heldIn, keptIn, recordAt, setTo, held, aboveZero, standingOf, freeOf, eligibility, excess}
-use Rattle.rules.specs.Bid.{recordOf, priceAt, beforeAt, hasFiled}
+use Rattle.rules.specs.Parts.{noLane, withPhase, withLanes, withPrices}
+use Rattle.rules.specs.Settings.{setup, withinLimits, itemWithin, targetOf, capOf, startOf, initialOf}
+use Rattle.rules.specs.Held.{goingIn, deniedIn, retainedIn, exitIn, heldIn, keptIn, recordAt, setTo, held, aboveZero, standingOf, freeOf, excess}
+use Rattle.rules.specs.Bid.{recordOf, priceAt, hasFiled}
 use Rattle.rules.specs.Round.{priceNext, beforeNext, opensAt, stops}
-use Rattle.rules.specs.Cutback.{givenFor, numbersFit, mayCut, revised, cutFrom, freeCut, reduced, cutBack}
-use Rattle.rules.specs.Standing.{isOpen, recordZero, phaseStands}
+use Rattle.rules.specs.Cutback.{givenFor, mayCut, revised, cutFrom, reduced, cutBack}
+use Rattle.rules.specs.Legal.{isOpen, recordZero, phaseStands}
 use Rattle.rules.specs.Stands.{Limits, Long, Stands}
-use Rattle.rules.specs.OneCall.{CutOnly, CutPrice}
+use Rattle.laws.specs.OneCall.{CutOnly, CutPrice}
 use Rattle.rules.proofs.Sums.{sum-ext, sum-le, sum-six, sum-ge, sum-add, sum-swap, sum-zero}
-use Rattle.rules.proofs.Lists.{clash, both, all-give, all-take, list-at, list-ext, list-long}
+use Rattle.rules.proofs.Lists.{clash, both, all-give, list-long}
 use Rattle.rules.proofs.Signed.{above-zero}
 use Rattle.rules.proofs.Tests.{told, shown}
-use Rattle.rules.proofs.Standing.{limits-take, second-none, later-excess, later-open}
-use Rattle.rules.proofs.Prices.{Priced, next, next-none}
-use Rattle.rules.proofs.Parts.{target-is, cap-is, start-is, excess-same, price-anew, before-anew, prices-setup, free-anew, free-setup}
-use Rattle.rules.specs.Layout.{stored, loaded}
-use Rattle.rules.proofs.Storing.{Fits, loads}
-use Rattle.rules.proofs.Fitting.{fits}
-
--- ---- the revised settings, whatever the numbers
-
-module _ (t : Setup) (targets caps : List Tranches) (p : ℕ) (h : p < 8) where
-  item-is : getD (revised t targets caps .item) p noItem ≡ item (givenFor targets p) (givenFor caps p) (startOf t p)
-  unfolding revised
-  item-is = list-at (λ p. item (givenFor targets p) (givenFor caps p) (startOf t p)) noItem 8 p h
-
-  pub revised-target : targetOf (revised t targets caps) p ≡ givenFor targets p
-  revised-target = ap (λ i. i .target .0) item-is
-
-  pub revised-cap : capOf (revised t targets caps) p ≡ givenFor caps p
-  revised-cap = ap (λ i. i .cap .0) item-is
-
-  pub revised-start : startOf (revised t targets caps) p ≡ startOf t p
-  revised-start = ap (λ i. i .start) item-is
-
-limits-setup : (a : Auction) (targets caps : List Tranches)
-    → setup (withLimits a (givenFor targets) (givenFor caps)) ≡ revised (setup a) targets caps
-unfolding revised
-limits-setup a targets caps =
-    let e = list-ext (λ p. itemIn (laneAt (withLimits a (givenFor targets) (givenFor caps)) p))
-    (λ p. item (givenFor targets p) (givenFor caps p) (startOf (setup a) p)) 8
-    (λ p h. ap itemIn (list-at (λ p. limited (laneAt a p) (givenFor targets p) (givenFor caps p)) noLane 8 p h)
-    ∙ ap (item (givenFor targets p) (givenFor caps p)) (sym (start-is a p h))) in
-    rw e refl
+use Rattle.rules.proofs.Legal.{limits-take, second-none, later-excess, later-open}
+use Rattle.laws.proofs.Prices.{Priced, next, next-none}
+use Rattle.rules.proofs.Parts.{excess-same, price-anew, before-anew, prices-setup}
+use Rattle.rules.proofs.Reduced.{revised-target, revised-cap, revised-start, record-is, record-of, free-is, price-is, before-is, reduced-setup, fit, cut-numbers, cut-past}
 
 module _ (a : Auction) (targets caps : List Tranches) where
   abbrev m : ℕ
@@ -75,41 +47,8 @@ module _ (a : Auction) (targets caps : List Tranches) where
   abbrev z : Auction
   z = reduced a targets caps
 
-  -- ---- the reduced book, whatever the numbers
-
-  record-is : (k : ℕ) → k < 256 → recordAt (z .records) k ≡ setTo (recordAt (a .records) k) (givenFor caps (k % 8))
-  unfolding reduced
-  record-is k h = list-at (λ k. setTo (recordAt (a .records) k) (givenFor caps (k % 8))) nothing 256 k h
-
-  record-of : (b p : ℕ) → b < 32 → p < 8 → recordOf z b p ≡ setTo (recordOf a b p) (givenFor caps p)
-  record-of b p hb hp =
-      let e : (b * 8 + p) % 8 ≡ p = omega arith in
-      record-is (b * 8 + p) (omega arith) ∙ ap (λ q. setTo (recordOf a b p) (givenFor caps q)) e
-
-  free-is : (b : ℕ) → b < 32 → freeOf z b ≡ freeOf a b + cutFrom a caps b
-  unfolding reduced
-  free-is b h = let x : freeOf z b ≡ freeCut a caps b = free-anew a (freeCut a caps) b h in omega arith
-
-  abbrev limitsCut : Auction
-  limitsCut = withLimits (withFree a (freeCut a caps)) (givenFor targets) (givenFor caps)
-
-  price-is : (p : ℕ) → p < 8 → priceAt z p ≡ startOf (setup a) p
-  unfolding reduced
-  price-is p h = price-anew limitsCut (startOf (setup a)) (startOf (setup a)) p h
-
-  before-is : (p : ℕ) → p < 8 → beforeAt z p ≡ startOf (setup a) p
-  unfolding reduced
-  before-is p h = before-anew limitsCut (startOf (setup a)) (startOf (setup a)) p h
-
-  -- its settings are the revised ones
-  pub reduced-setup : setup (reduced a targets caps) ≡ revised (setup a) targets caps
-  unfolding reduced
-  reduced-setup =
-      prices-setup limitsCut (startOf (setup a)) (startOf (setup a)) ∙ limits-setup (withFree a (freeCut a caps)) targets caps
-      ∙ ap (λ u. revised u targets caps) (free-setup a (freeCut a caps))
-
   target-z : (p : ℕ) → targetOf (setup z) p ≡ targetOf t p
-  target-z p = ap (λ u. targetOf u p) reduced-setup
+  target-z p = ap (λ u. targetOf u p) (reduced-setup a targets caps)
 
   module _ (L : Limits (setup a)) where
     -- what is held of a product, with what was cut there, is what was held
@@ -118,7 +57,7 @@ module _ (a : Auction) (targets caps : List Tranches) where
     held-cut p hp =
         let s = sum-six (λ b. heldIn (recordOf z b p)) (λ b. goingIn (recordOf a b p) - givenFor caps p) (λ b. 0)
         (λ b. heldIn (recordOf a b p)) (λ b. 0) (λ b. 0) n
-        (λ b hb. omega (arith, ap heldIn (record-of b p (omega (arith, L .bidders)) (omega (arith, L .products))))) in
+        (λ b hb. omega (arith, ap heldIn (record-of a targets caps b p (omega (arith, L .bidders)) (omega (arith, L .products))))) in
         omega (arith, sum-zero n)
 
     -- what a bidder holds, with what was cut, is what it held; so with g alone, and with g and d
@@ -128,9 +67,9 @@ module _ (a : Auction) (targets caps : List Tranches) where
       row-cut b hb =
           let s = sum-six (λ p. f (recordOf z b p)) (λ p. goingIn (recordOf a b p) - givenFor caps p) (λ p. 0)
           (λ p. f (recordOf a b p)) (λ p. 0) (λ p. 0) m
-          (λ p hp. let e = ap f (record-of b p (omega (arith, L .bidders)) (omega (arith, L .products))) in
+          (λ p hp. let e = ap f (record-of a targets caps b p (omega (arith, L .bidders)) (omega (arith, L .products))) in
           omega (arith, x (recordOf a b p) (givenFor caps p))) in
-          omega (arith, sum-zero m, free-is b (omega (arith, L .bidders)))
+          omega (arith, sum-zero m, free-is a targets caps b (omega (arith, L .bidders)))
 
   -- ---- a cutback that may be made
 
@@ -150,20 +89,8 @@ module _ (a : Auction) (targets caps : List Tranches) where
     pub cut-unfiled : a .cards .filed ≡ 0
     cut-unfiled = search told
 
-    fit : (p : ℕ) → p < 8 → numbersFit (setup a) targets caps p ≡ true
-    fit = all-take (numbersFit (setup a) targets caps) 8 (search told)
-
-    -- "none larger than before and none 0, targets still ranked, caps at most targets"
-    pub cut-numbers : (p : ℕ) → p < a .terms .products
-        → (1 ≤ givenFor targets p) × (givenFor targets p ≤ targetOf (setup a) p) × (1 ≤ givenFor caps p)
-        × (givenFor caps p ≤ capOf (setup a) p) × (givenFor caps p ≤ givenFor targets p)
-    cut-numbers p h = let x = rw (lt-ltb p m h) at (fit p (omega (arith, hm))) in search told
-
     cut-ranked : (p : ℕ) → 0 < p → p < m → givenFor targets p ≤ givenFor targets (p - 1)
-    cut-ranked p g h = let x = rw (lt-ltb p m h, ne-eqb p 0 (λ z. omega arith)) at (fit p (omega (arith, hm))) in search told
-
-    cut-past : (p : ℕ) → m ≤ p → p < 8 → (givenFor targets p ≡ 0) × (givenFor caps p ≡ 0)
-    cut-past p h l = let x = rw (le-ltb p m h) at (fit p l) in search told
+    cut-ranked p g h = let x = rw (lt-ltb p m h, ne-eqb p 0 (λ z. omega arith)) at (fit a targets caps S may p (omega (arith, hm))) in search told
 
     -- "settings within limits": the revised numbers in the place of the settings' own
     item-by : (p : ℕ) → p < 8 → (s u : Bool) → ltb p m ≡ s → eqb p 0 ≡ u → itemWithin t p ≡ true
@@ -173,7 +100,7 @@ module _ (a : Auction) (targets caps : List Tranches) where
         let x = revised-target (setup a) targets caps p l in
         let y = revised-cap (setup a) targets caps p l in
         let w = revised-start (setup a) targets caps p l in
-        let c = cut-numbers p h in
+        let c = cut-numbers a targets caps S may p h in
         let g : givenFor targets p ≤ 200 = omega (arith, c, L .target p h) in
         let s = L .start p h in
         rw (e, f, x, y, w) (search shown)
@@ -184,14 +111,14 @@ module _ (a : Auction) (targets caps : List Tranches) where
         let x′ = revised-target (setup a) targets caps (p - 1) (omega arith) in
         let y = revised-cap (setup a) targets caps p l in
         let w = revised-start (setup a) targets caps p l in
-        let c = cut-numbers p h in
+        let c = cut-numbers a targets caps S may p h in
         let r = cut-ranked p (omega (arith, d)) h in
         let g : givenFor targets p ≤ 200 = omega (arith, c, L .target p h) in
         let s = L .start p h in
         rw (e, f, x, x′, y, w) (search shown)
     item-by p l false u e f =
         let h = ltb-false p m e in
-        let c = cut-past p h l in
+        let c = cut-past a targets caps S may p h l in
         let s = L .no-item p h l in
         rw (e, revised-target (setup a) targets caps p l, revised-cap (setup a) targets caps p l, revised-start (setup a) targets caps p l)
         (search shown)
@@ -204,17 +131,10 @@ module _ (a : Auction) (targets caps : List Tranches) where
         let v = sum-ext (targetOf t) (givenFor targets) m (λ p h. revised-target (setup a) targets caps p (omega (arith, hm))) in
         rw v (search (told, shown))
 
-    given-by : (p : ℕ) → p < 8 → (s : Bool) → ltb p m ≡ s → (givenFor targets p < 256) × (givenFor caps p < 256)
-    given-by p l true e = let h = ltb-true p m e in omega (arith, cut-numbers p h, L .target p h, L .cap p h)
-    given-by p l false e = omega (arith, cut-past p (ltb-false p m e) l)
-
-    given-small : (p : ℕ) → p < 8 → (givenFor targets p < 256) × (givenFor caps p < 256)
-    given-small p l = given-by p l (ltb p m) refl
-
     -- nothing was kept, and nothing is
     kept-none : (p : ℕ) → p < m → sumUpTo (λ b. keptIn (recordOf z b p)) n ≡ 0
     kept-none p hp =
-        sum-ext _ _ n (λ b hb. ap keptIn (record-of b p (omega (arith, hn)) (omega (arith, hm)))) ∙ second-none a S op cut-second p hp
+        sum-ext _ _ n (λ b hb. ap keptIn (record-of a targets caps b p (omega (arith, hn)) (omega (arith, hm)))) ∙ second-none a S op cut-second p hp
 
     none-kept : (b p : ℕ) → b < n → p < m → keptIn (recordOf z b p) ≡ 0
     none-kept b p hb hp = let x = sum-ge (λ b. keptIn (recordOf z b p)) n b hb in omega (arith, kept-none p hp)
@@ -224,7 +144,7 @@ module _ (a : Auction) (targets caps : List Tranches) where
         → held (a .records) n p - targetOf (setup a) p
         ≤ held (z .records) n p - targetOf t p + sumUpTo (λ b. goingIn (recordOf a b p) - givenFor caps p) n
     above-more p hp =
-        omega (arith, held-cut L p hp, cut-numbers p hp, revised-target (setup a) targets caps p (omega (arith, hm)))
+        omega (arith, held-cut L p hp, cut-numbers a targets caps S may p hp, revised-target (setup a) targets caps p (omega (arith, hm)))
 
     -- "The auction cannot close here": what is taken off becomes free, and targets only fall
     excess-more : excess a ≤ excess z
@@ -241,7 +161,7 @@ module _ (a : Auction) (targets caps : List Tranches) where
         )) in
         let y = sum-add (λ p. aboveZero (standingOf z p)) (λ p. sumUpTo (λ b. c b p) n) m in
         let w = sum-swap c n m in
-        let f = sum-ext (freeOf z) (λ b. freeOf a b + cutFrom a caps b) n (λ b hb. free-is b (omega (arith, hn))) in
+        let f = sum-ext (freeOf z) (λ b. freeOf a b + cutFrom a caps b) n (λ b hb. free-is a targets caps b (omega (arith, hn))) in
         let g = sum-add (freeOf a) (cutFrom a caps) n in
         omega arith
 
@@ -281,7 +201,7 @@ module _ (a : Auction) (targets caps : List Tranches) where
         search shown
 
     zero-past : (k : ℕ) → k < 256 → recordZero (recordAt (a .records) k) ≡ true → recordZero (recordAt (z .records) k) ≡ true
-    zero-past k h e = rw (record-is k h) (zero-set (recordAt (a .records) k) (givenFor caps (k % 8)) e)
+    zero-past k h e = rw (record-is a targets caps k h) (zero-set (recordAt (a .records) k) (givenFor caps (k % 8)) e)
 
     no-free-past : (b : ℕ) → n ≤ b → b < 32 → freeOf z b ≡ 0
     no-free-past b h l =
@@ -289,7 +209,7 @@ module _ (a : Auction) (targets caps : List Tranches) where
         let e = S .no-bidder (b * 8 + p) (omega (arith, hm)) (omega (arith, hm)) in
         let g : goingIn (recordOf a b p) ≡ 0 = search told in
         omega arith) in
-        omega (arith, free-is b l, S .no-free b h l, sum-zero m)
+        omega (arith, free-is a targets caps b l, S .no-free b h l, sum-zero m)
 
     unfiled : (b : ℕ) → hasFiled a b ≡ false
     unfiled b = rw (cut-unfiled, zero-div (2 ^ b)) refl
@@ -313,11 +233,11 @@ module _ (a : Auction) (targets caps : List Tranches) where
       no-price = M .none;
       exits = λ b p hb hp h. absurd (let x : ⊥ = omega (arith, none-kept b p hb hp) in x);
       no-exit = λ b p hb hp e.
-          let q = record-of b p (omega (arith, hn)) (omega (arith, hm)) in
+          let q = record-of a targets caps b p (omega (arith, hn)) (omega (arith, hm)) in
           ap exitIn q ∙ S .no-exit b p hb hp (sym (ap retainedIn q) ∙ e);
       caps = λ b p hb hp.
-          let q = ap heldIn (record-of b p (omega (arith, hn)) (omega (arith, hm))) in
-          let k = ap keptIn (record-of b p (omega (arith, hn)) (omega (arith, hm))) in
+          let q = ap heldIn (record-of a targets caps b p (omega (arith, hn)) (omega (arith, hm))) in
+          let k = ap keptIn (record-of a targets caps b p (omega (arith, hn)) (omega (arith, hm))) in
           let c = ap (λ u. capOf u p) (M .settings) in
           omega (arith, none-kept b p hb hp, revised-cap (setup a) targets caps p (omega (arith, hm)));
       no-bidder = λ k l h. zero-past k l (S .no-bidder k l h);
@@ -331,24 +251,24 @@ module _ (a : Auction) (targets caps : List Tranches) where
     }
 
     start-some : (p : ℕ) → p < m → 1 ≤ priceAt z p
-    start-some p hp = omega (arith, price-is p (omega (arith, hm)), L .start p hp)
+    start-some p hp = omega (arith, price-is a targets caps p (omega (arith, hm)), L .start p hp)
 
     -- stopped, at the starting prices
     ends : stops z ≡ true → Meets stopped (z .lanes)
     unfolding reduced
     ends e = record {
-      settings = reduced-setup;
+      settings = reduced-setup a targets caps;
       within = λ p hp.
-          let x = price-is p (omega (arith, hm)) in
-          let y = before-is p (omega (arith, hm)) in
+          let x = price-is a targets caps p (omega (arith, hm)) in
+          let y = before-is a targets caps p (omega (arith, hm)) in
           (omega (arith, L .start p hp), omega arith, omega arith);
       fell = λ p hp t. clash t refl;
-      none = λ p h l. let s = L .no-item p h l in (price-is p l ∙ s .2, before-is p l ∙ s .2);
+      none = λ p h l. let s = L .no-item p h l in (price-is a targets caps p l ∙ s .2, before-is a targets caps p l ∙ s .2);
       phase = rw (cut-unfiled) (both (lt-ltb 0 (excess z) some-excess) e);
     }
 
     onward-setup : setup (with bidsOpen onwards) ≡ t
-    onward-setup = prices-setup z (priceNext z) (beforeNext z) ∙ reduced-setup
+    onward-setup = prices-setup z (priceNext z) (beforeNext z) ∙ reduced-setup a targets caps
 
     next-of : stops z ≡ false → (p : ℕ) → p < m → Priced z p (held (z .records) n p) (price onwards p) (before onwards p)
     unfolding reduced
@@ -356,14 +276,14 @@ module _ (a : Auction) (targets caps : List Tranches) where
         rw (
           price-anew z (priceNext z) (beforeNext z) p (omega (arith, hm)),
           before-anew z (priceNext z) (beforeNext z) p (omega (arith, hm)),
-        ) (next z (rw reduced-setup (limits-take t revised-within)) p hp (start-some p hp) e)
+        ) (next z (rw (reduced-setup a targets caps) (limits-take t revised-within)) p hp (start-some p hp) e)
 
     next-before : stops z ≡ false → (p : ℕ) → p < m → (s : Bool) → ltb (targetOf t p) (held (z .records) n p) ≡ s
         → before onwards p ≡ startOf (setup a) p
     next-before e p hp true f =
-        next-of e p hp .fell (omega (arith, target-z p, ltb-true (targetOf t p) (held (z .records) n p) f)) .2 ∙ price-is p (omega (arith, hm))
+        next-of e p hp .fell (omega (arith, target-z p, ltb-true (targetOf t p) (held (z .records) n p) f)) .2 ∙ price-is a targets caps p (omega (arith, hm))
     next-before e p hp false f =
-        next-of e p hp .stayed (omega (arith, target-z p, ltb-false (targetOf t p) (held (z .records) n p) f)) .1 ∙ before-is p (omega (arith, hm))
+        next-of e p hp .stayed (omega (arith, target-z p, ltb-false (targetOf t p) (held (z .records) n p) f)) .1 ∙ before-is a targets caps p (omega (arith, hm))
 
     -- open, at the prices worked out from them
     goes-on : stops z ≡ false → Meets bidsOpen onwards
@@ -374,22 +294,22 @@ module _ (a : Auction) (targets caps : List Tranches) where
       fell = λ p hp o l. let x = next-of e p hp .fell (omega (arith, target-z p)) in omega (arith, x);
       none = λ p h l.
           let s = L .no-item p h l in
-          let y = next-none z (rw reduced-setup (limits-take t revised-within)) p (price-is p l ∙ s .2) (before-is p l ∙ s .2) in
+          let y = next-none z (rw (reduced-setup a targets caps) (limits-take t revised-within)) p (price-is a targets caps p l ∙ s .2) (before-is a targets caps p l ∙ s .2) in
           (price-anew z (priceNext z) (beforeNext z) p l ∙ y .0, before-anew z (priceNext z) (beforeNext z) p l ∙ y .1);
       phase = later-open (with bidsOpen onwards) (λ q. omega (arith, cut-second))
-          (omega (arith, some-excess, excess-same z (with bidsOpen onwards) (onward-setup ∙ sym reduced-setup) refl refl)) (λ _. kept-none);
+          (omega (arith, some-excess, excess-same z (with bidsOpen onwards) (onward-setup ∙ sym (reduced-setup a targets caps)) refl refl)) (λ _. kept-none);
     }
       where
         within-by : (p : ℕ) → p < m → (s : Bool) → ltb (targetOf t p) (held (z .records) n p) ≡ s
             → (1 ≤ price onwards p) × (price onwards p ≤ before onwards p) × (before onwards p ≤ startOf (setup a) p)
         within-by p hp true f =
             let x = next-of e p hp .fell (omega (arith, target-z p, ltb-true (targetOf t p) (held (z .records) n p) f)) in
-            let y = price-is p (omega (arith, hm)) in
+            let y = price-is a targets caps p (omega (arith, hm)) in
             (omega (arith, x), omega (arith, x), omega (arith, x))
         within-by p hp false f =
             let x = next-of e p hp .stayed (omega (arith, target-z p, ltb-false (targetOf t p) (held (z .records) n p) f)) in
-            let y = price-is p (omega (arith, hm)) in
-            let w = before-is p (omega (arith, hm)) in
+            let y = price-is a targets caps p (omega (arith, hm)) in
+            let w = before-is a targets caps p (omega (arith, hm)) in
             (omega (arith, x, L .start p hp), omega (arith, x), omega (arith, x))
 
     -- what holds of both ends holds of the auction cut back
@@ -416,53 +336,13 @@ module _ (a : Auction) (targets caps : List Tranches) where
         long : (ph : ℕ) (ls : List Lane) → length ls ≡ 8 → Long (with ph ls)
         long ph ls x = record { lanes = x; seats = list-long _ 32; row = K .row; records = list-long _ 256; lines = K .lines }
 
-    -- the reduced book is loaded as it is stored, whatever comes after it
-    pub reduced-loads : Long a → a .cards .filed < 4294967296 → loaded (stored (reduced a targets caps)) ≡ reduced a targets caps
-    unfolding reduced
-    reduced-loads K h =
-        loads z long (cut-each (λ y. Fits y → Fits z) (λ e. over _ _) (λ e. over _ _)
-        (fits (cutBack a targets caps) cut-stands (cut-each (λ y. y .cards .filed < 4294967296) (λ e. h) (λ e. h))))
-      where
-        long : Long z
-        long = record { lanes = list-long _ 8; seats = list-long _ 32; row = K .row; records = list-long _ 256; lines = K .lines }
-
-        over : (ph : ℕ) (ls : List Lane) → Fits (with ph ls) → Fits z
-        over ph ls F =
-            let G = fits a S h in record {
-              phase = omega arith;
-              unit = F .unit;
-              products = F .products;
-              bidders = F .bidders;
-              rows = F .rows;
-              round = F .round;
-              statewide = F .statewide;
-              filed = F .filed;
-              target = λ p l. omega (arith, target-is z p l, target-z p, revised-target (setup a) targets caps p l, given-small p l);
-              cap = λ p l. omega (arith, cap-is z p l, ap (λ u. capOf u p) reduced-setup, revised-cap (setup a) targets caps p l, given-small p l);
-              start = λ p l. omega (arith, start-is z p l, ap (λ u. startOf u p) reduced-setup, revised-start (setup a) targets caps p l, start-is a p l, G .start p l);
-              price = λ p l. omega (arith, price-is p l, start-is a p l, G .start p l);
-              before = λ p l. omega (arith, before-is p l, start-is a p l, G .start p l);
-              initial = F .initial;
-              free = F .free;
-              percent = F .percent;
-              decrement = F .decrement;
-              going = F .going;
-              denied = F .denied;
-              retained = F .retained;
-              exit = F .exit;
-              bid = F .bid;
-              withdrawn = F .withdrawn;
-              leaving = F .leaving;
-              priority = F .priority;
-            }
-
     -- ---- what it changes
 
     pub cut-only : CutOnly a (cutBack a targets caps) targets caps
     unfolding reduced revised
     cut-only =
-        cut-each (λ y. CutOnly a y targets caps) (λ e. only stopped (z .lanes) (inr refl) reduced-setup refl)
-        (λ e. only bidsOpen onwards (inl refl) onward-setup (excess-same z (with bidsOpen onwards) (onward-setup ∙ sym reduced-setup) refl refl))
+        cut-each (λ y. CutOnly a y targets caps) (λ e. only stopped (z .lanes) (inr refl) (reduced-setup a targets caps) refl)
+        (λ e. only bidsOpen onwards (inl refl) onward-setup (excess-same z (with bidsOpen onwards) (onward-setup ∙ sym (reduced-setup a targets caps)) refl refl))
       where
         only : (ph : ℕ) (ls : List Lane) → (ph ≡ bidsOpen) ⊎ (ph ≡ stopped) → setup (with ph ls) ≡ t → excess (with ph ls) ≡ excess z
             → CutOnly a (with ph ls) targets caps
@@ -471,10 +351,10 @@ module _ (a : Auction) (targets caps : List Tranches) where
           round = refl;
           cards = refl;
           phase = h;
-          going = λ b p hb hp. ap goingIn (record-of b p hb hp);
-          denied = λ b p hb hp. ap deniedIn (record-of b p hb hp);
-          retained = λ b p hb hp. ap retainedIn (record-of b p hb hp);
-          exit = λ b p hb hp. ap exitIn (record-of b p hb hp);
+          going = λ b p hb hp. ap goingIn (record-of a targets caps b p hb hp);
+          denied = λ b p hb hp. ap deniedIn (record-of a targets caps b p hb hp);
+          retained = λ b p hb hp. ap retainedIn (record-of a targets caps b p hb hp);
+          exit = λ b p hb hp. ap exitIn (record-of a targets caps b p hb hp);
           moved = row-cut L goingIn (λ r c. omega arith);
           eligible = row-cut L (λ r. goingIn r + deniedIn r) (λ r c. omega arith);
           excess = omega (arith, excess-more);
@@ -484,17 +364,17 @@ module _ (a : Auction) (targets caps : List Tranches) where
     unfolding reduced revised
     cut-price p hp =
         cut-each (λ y. CutPrice a y p) (λ e. record {
-          before = before-is p (omega (arith, hm));
+          before = before-is a targets caps p (omega (arith, hm));
           fell = λ o. clash o refl;
           stayed = λ o. clash o refl;
-          ended = λ o. price-is p (omega (arith, hm));
+          ended = λ o. price-is a targets caps p (omega (arith, hm));
         })
         opened
       where
         opened : stops z ≡ false → CutPrice a (with bidsOpen onwards) p
         opened e =
             let N = next-of e p hp in
-            let x = price-is p (omega (arith, hm)) in
+            let x = price-is a targets caps p (omega (arith, hm)) in
             let w : targetOf (setup (with bidsOpen onwards)) p ≡ targetOf (setup z) p = ap (λ u. targetOf u p) onward-setup ∙ sym (target-z p) in
             record {
               before = next-before e p hp (ltb (targetOf t p) (held (z .records) n p)) refl;
