@@ -360,7 +360,7 @@ module _ (m n : ℕ) (target : ℕ → ℕ) (tick : ℕ → Bool) (draw : ℕ �
 
   -- the definition has that fuel
   pub kept-all-ends : (ps : List Place) → Keepable m n target tick ps → Ended m n target tick ps 0 (keptAll m n target tick draw ps)
-  kept-all-ends ps K = keep-ends (every leftOf ps n) ps 0 K (omega arith)
+  kept-all-ends ps K = keep-ends _ ps 0 K (omega arith)
 
 -- a ticked product ends with its target at least, and with exactly it where something is kept
 module _ (m n : ℕ) (target : ℕ → ℕ) (tick : ℕ → Bool) where
