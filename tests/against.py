@@ -391,7 +391,8 @@ def boxes(many, seed, states):
                 if one.read() != two.read():
                     wrong.append(('box %d' % (k + 1), lines, 'the bytes differ'))
             if (k + 1) % 10 == 0 or k + 1 == many:
-                results.append(told('second model: boxes %d to %d, %d of them standing or issued' % (k // 10 * 10 + 1, k + 1, stood), wrong))
+                name = 'second model: boxes %d to %d, %d of them standing or issued' % (k // 10 * 10 + 1, k + 1, stood)
+                results.append(told(name, wrong))
                 wrong, stood = [], 0
     return results
 
