@@ -4,7 +4,8 @@ was answered how.
 
     tests/against.py [SESSIONS [BOXES [SEED]]]
 
-The desk is ./desk, or the program that DESK names. Not part of the gate.
+Ten sessions, or ten boxes, are a test; the last line is `N passed, M failed`. The desk is ./desk, or the program that DESK names. The gate
+runs it by tests/second.
 """
 import collections
 import os
@@ -225,13 +226,14 @@ def loose_line(rnd):
         [2016, 2017, 2018, 2019]) + '080100800000001000000080'
 
 
-def session(rnd, desk, lines, states):
-    """One hire of the box: appends its commands, and some states on the way; `desk` is the model, which plays along."""
+def session(rnd, desk, lines, answers, states):
+    """One hire of the box: appends its commands with their answers, and some states on the way; `desk` is the model, which plays along."""
     def say(line):
         lines.append(line)
         if rnd.random() < .03:
             states.append(desk.state)
-        return desk.answer(line.encode())
+        answers.append(desk.answer(line.encode()))
+        return answers[-1]
     say('return')
     while say(opening(rnd)) != ['ok']:
         pass
@@ -299,45 +301,43 @@ def run_desk(text, *args):
     return done.stdout
 
 
-def differ(lines, got):
+def differ(lines, answers, got):
     """The first line of which the answers differ."""
-    desk = model.Desk()
     at = 0
-    said = got.decode().split('\n')
-    for k, line in enumerate(lines):
-        want = desk.answer(line.encode())
+    said = got.decode(errors='replace').split('\n')
+    for line, want in zip(lines, answers):
         if said[at:at + len(want)] != want:
-            return k, line, want, said[at:at + len(want) + 1]
+            return line, want, said[at:at + len(want) + 1]
         at += len(want)
-    return None
+    return 'after the last line', [], said[at:]
 
 
-def tallied(tally, line, said):
-    """Counts an answer: `ok`, `error`, or the number of a refusal."""
-    if said and line.split() and line.split()[0].encode() in model.COMMANDS:
-        words = said[0].split()
-        tally[line.split()[0]][words[1] if words[0] == 'refused' else words[0]] += 1
-    return said
+def told(name, wrong):
+    """Says a test and what is wrong of it, and gives whether it passed."""
+    print(('FAILED ' if wrong else 'ok ') + name)
+    for what in wrong:
+        print('    ', what)
+    return not wrong
 
 
 def play(sessions, seed):
+    """Sessions by tens, each ten in one run of the desk: the tests' results, states met on the way, and how each command was answered."""
     rnd = random.Random(seed)
-    asked = wrong = 0
-    states = []
+    results, states = [], []
     tally = collections.defaultdict(collections.Counter)
-    for first in range(0, sessions, 50):
-        desk, lines = model.Desk(), []
-        for _ in range(min(50, sessions - first)):
-            session(rnd, desk, lines, states)
-        text = '\n'.join(lines).encode() + rnd.choice([b'\n', b''])
-        want = model.Desk()
-        told = b''.join(s.encode() + b'\n' for line in lines for s in tallied(tally, line, want.answer(line.encode())))
-        got = run_desk(text)
-        asked += len(lines)
-        if got != told:
-            wrong += 1
-            print('DIFFERENCE in sessions from %d:' % first, differ(lines, got))
-    return asked, wrong, states, tally
+    for first in range(0, sessions, 10):
+        desk, lines, answers = model.Desk(), [], []
+        last = min(first + 10, sessions)
+        for _ in range(first, last):
+            session(rnd, desk, lines, answers, states)
+        got = run_desk('\n'.join(lines).encode() + rnd.choice([b'\n', b'']))
+        wrong = [] if got == ''.join(s + '\n' for a in answers for s in a).encode() else [differ(lines, answers, got)]
+        results.append(told('second model: sessions %d to %d, %d lines' % (first + 1, last, len(lines)), wrong))
+        for line, said in zip(lines, answers):
+            if said and line.split() and line.split()[0].encode() in model.COMMANDS:
+                words = said[0].split()
+                tally[line.split()[0]][words[1] if words[0] == 'refused' else words[0]] += 1
+    return results, states, tally
 
 
 LOOK = ['count', 'report 0', 'report 1', 'result', 'show', 'calculate 0', 'calculate 0 1', 'calculate 1 0 2', 'return', 'file 00',
@@ -362,8 +362,9 @@ def spoiled_state(rnd, state):
 
 
 def boxes(many, seed, states):
+    """Boxes with bytes changed, each in a run of its own: the tests' results."""
     rnd = random.Random(seed + 1)
-    wrong = stood = 0
+    results, wrong, stood = [], [], 0
     with tempfile.TemporaryDirectory() as folder:
         ours, theirs = os.path.join(folder, 'model'), os.path.join(folder, 'desk')
         for k in range(many):
@@ -380,26 +381,30 @@ def boxes(many, seed, states):
             if len(state) == model.LENGTH and 1 <= model.load(state).products <= 8 and rnd.random() < .6:
                 lines[1:1] = [cutback(rnd, model.load(state)), 'show']
             desk = model.Desk(ours)
-            told = ''.join(s + '\n' for line in lines for s in desk.answer(line.encode())).encode()
+            answers = [desk.answer(line.encode()) for line in lines]
+            want = ''.join(s + '\n' for a in answers for s in a).encode()
             got = run_desk('\n'.join(lines).encode() + b'\n', theirs)
-            stood += not told.startswith((b'refused 2', b'refused 1'))
+            stood += not want.startswith((b'refused 2', b'refused 1'))
+            if got != want:
+                wrong.append(('box %d' % (k + 1), lines) + differ(lines, answers, got))
             with open(ours, 'rb') as one, open(theirs, 'rb') as two:
-                same = one.read() == two.read()
-            if got != told or not same:
-                wrong += 1
-                print('DIFFERENCE in box %d:' % k, lines, told, got, 'bytes %s' % ('same' if same else 'differ'))
-    return wrong, stood
+                if one.read() != two.read():
+                    wrong.append(('box %d' % (k + 1), lines, 'the bytes differ'))
+            if (k + 1) % 10 == 0 or k + 1 == many:
+                name = 'second model: boxes %d to %d, %d of them standing or issued' % (k // 10 * 10 + 1, k + 1, stood)
+                results.append(told(name, wrong))
+                wrong, stood = [], 0
+    return results
 
 
 def main():
     sessions, many, seed = (list(map(int, sys.argv[1:])) + [300, 300, 1][len(sys.argv) - 1:])[:3]
-    asked, wrong, states, tally = play(sessions, seed)
-    print('%d sessions, %d lines, %d differences' % (sessions, asked, wrong))
+    results, states, tally = play(sessions, seed)
     for command in sorted(tally):
         print('    %s: %s' % (command, ', '.join('%s %d' % pair for pair in sorted(tally[command].items()))))
-    off, stood = boxes(many, seed, states)
-    print('%d boxes, %d of them standing or issued, %d differences' % (many, stood, off))
-    return 1 if wrong or off else 0
+    results += boxes(many, seed, states)
+    print('%d passed, %d failed' % (results.count(True), results.count(False)))
+    return 0 if all(results) else 1
 
 
 if __name__ == '__main__':
