@@ -3,9 +3,9 @@ ghost use Rattle.rules.specs.Uses.{Called};
 pub use boxed::Kind;
 use check::same;
 use layout::STATE;
-use say::line as say_line;
-use words::Cursor;
-use words::word;
+use text::Cursor;
+use text::line as say_line;
+use text::word;
 
 enum Command {
     Open,
@@ -137,6 +137,6 @@ pub fn answer(line: &[u8], kind: Kind, path: &[u8], state: &mut [u8; STATE])
         Command::Read => carding::read(line, c),
         Command::Write => carding::write(line, c),
         Command::Help => help(line, c),
-        Command::Other => say::wrong(b"no such command; help lists them", a),
+        Command::Other => text::wrong(b"no such command; help lists them", a),
     }
 }

@@ -4,9 +4,9 @@ use mathlib.Core.List.{List}
 use Prim.Native.Nat.{ℕ, suc, _+_, _-_, _≤_, _<_}
 use native.Mathlib.Omega.{arith}
 use lib.ListN.{set}
-use Rattle.words.specs.declared.Cursor.{Cursor}
-use Rattle.words.specs.declared.number.Take.the-variants as take
-use Rattle.words.specs.Number.{takeAt}
+use Rattle.text.specs.declared.Cursor.{Cursor}
+use Rattle.text.specs.declared.number.Take.the-variants as take
+use Rattle.text.specs.Number.{takeAt}
 use Rattle.asked.specs.declared.numbers.List.the-variants.{Found, TooLarge}
 use Rattle.asked.specs.declared.numbers.List as list
 use Rattle.asked.specs.Typed.{Typed, typed, typedFrom, limitOf, typedAt}

@@ -3,18 +3,16 @@ use mathlib.Core.Bool.{cond}
 use mathlib.Core.List.{List}
 use Prim.Native.Nat.{ℕ, _+_, _*_}
 use lib.ListN.{getD}
-use lib.Dec.{ltb, eqb}
+use lib.Dec.{ltb}
 use Rattle.rules.specs.declared.Line.{Line}
 use Rattle.rules.specs.declared.Product.{Product}
 use Rattle.rules.specs.declared.Row.{Row}
 use Rattle.rules.specs.declared.Settings.{Settings}
 use Rattle.rules.specs.declared.Tranches.{Tranches}
-use Rattle.rules.specs.declared.Unit.{Unit}
-use Rattle.rules.specs.declared.Unit.the-variants.{Kwh, MwDay}
 use Rattle.rules.specs.Card.{line}
 use Rattle.rules.specs.Count.{listOf}
 use Rattle.rules.specs.Parts.{row}
-use Rattle.rules.specs.Units.{tranches, priceOf}
+use Rattle.rules.specs.Units.{tranches, unitNumber, priceOf}
 use Rattle.asked.specs.declared.opening.Sizes.{Sizes}
 use Rattle.asked.specs.declared.cutting.Revised.{Revised}
 
@@ -25,12 +23,6 @@ byteOf n = cond (ltb n 256) n 255
 abbrev pub pairOf : ℕ → ℕ
 pairOf n = cond (ltb n 65536) n 65535
 
-abbrev pub countOf : ℕ → ℕ
-countOf n = byteOf n
-
-abbrev pub unitNamed : ℕ → Unit
-unitNamed n = cond (eqb n 0) Kwh MwDay
-
 -- the numbers from which an array is made
 abbrev pub typed : List ℕ → ℕ → ℕ
 typed ns i = getD ns i 0
@@ -40,43 +32,39 @@ drawnAt ns i = byteOf (typed ns i)
 
 -- ---- settings
 
-abbrev pub productAsked : ℕ → ℕ → ℕ → ℕ → Product
-productAsked u t c x = record { target = tranches (pairOf t); cap = tranches (pairOf c); start = priceOf u x }
-
 abbrev pub productAt : ℕ → List ℕ → ℕ → Product
-productAt u ns p = productAsked u (typed ns (p * 3)) (typed ns (p * 3 + 1)) (typed ns (p * 3 + 2))
+productAt u ns p =
+    record {
+      target = tranches (pairOf (typed ns (p * 3)));
+      cap = tranches (pairOf (typed ns (p * 3 + 1)));
+      start = priceOf u (typed ns (p * 3 + 2));
+    }
 
 abbrev pub bidderAsked : List ℕ → ℕ → Tranches
 bidderAsked ns b = tranches (pairOf (typed ns b))
 
-abbrev pub rowAsked : ℕ → ℕ → Row
-rowAsked x d = row (pairOf x) (pairOf d)
-
 abbrev pub rowAt : List ℕ → ℕ → Row
-rowAt ns i = rowAsked (typed ns (i * 2)) (typed ns (i * 2 + 1))
+rowAt ns i = row (pairOf (typed ns (i * 2))) (pairOf (typed ns (i * 2 + 1)))
 
 -- the settings of `open`, from its numbers
 unfoldable pub settingsAsked : Sizes → List ℕ → List ℕ → List ℕ → Settings
 settingsAsked n products bidders rows =
     record {
-      unit = unitNamed (n .unit);
-      products = countOf (n .products);
-      bidders = countOf (n .bidders);
-      rows = countOf (n .rows);
+      unit = n .unit;
+      products = n .products;
+      bidders = n .bidders;
+      rows = n .rows;
       statewide = tranches (pairOf (n .statewide));
-      product = listOf (productAt (n .unit) products) 8;
+      product = listOf (productAt (unitNumber (n .unit)) products) 8;
       eligibility = listOf (bidderAsked bidders) 32;
       row = listOf (rowAt rows) 8;
     }
 
 -- ---- a bid
 
-abbrev pub lineAsked : ℕ → ℕ → ℕ → ℕ → Line
-lineAsked b w x k = line (pairOf b) (pairOf w) x (byteOf k)
-
 abbrev pub lineAskedAt : List ℕ → ℕ → Line
 lineAskedAt ns p =
-    lineAsked (typed ns (p * 4)) (typed ns (p * 4 + 1)) (typed ns (p * 4 + 2)) (typed ns (p * 4 + 3))
+    line (pairOf (typed ns (p * 4))) (pairOf (typed ns (p * 4 + 1))) (typed ns (p * 4 + 2)) (byteOf (typed ns (p * 4 + 3)))
 
 -- ---- a cutback
 

@@ -4,10 +4,10 @@ use mathlib.Core.List.{List}
 use Prim.Native.Nat.{ℕ, zero, suc, _+_}
 use lib.ListN.{set}
 use lib.Dec.{ltb}
-use Rattle.words.specs.declared.Cursor.{Cursor}
-use Rattle.words.specs.declared.number.Take.{Take}
-use Rattle.words.specs.declared.number.Take.the-variants as take
-use Rattle.words.specs.Number.{takeAt}
+use Rattle.text.specs.declared.Cursor.{Cursor}
+use Rattle.text.specs.declared.number.Take.{Take}
+use Rattle.text.specs.declared.number.Take.the-variants as take
+use Rattle.text.specs.Number.{takeAt}
 use Rattle.asked.specs.declared.numbers.List as list
 use Rattle.asked.specs.declared.numbers.List.the-variants.{Found, TooLarge}
 

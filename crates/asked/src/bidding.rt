@@ -1,33 +1,21 @@
 // The numbers of a bid, and a card's bytes.
 ghost use mathlib.Core.Path.{_≡_};
 ghost use Rattle.rules.specs.Count.{listOf};
-ghost use Rattle.asked.specs.Asked.{lineAsked, lineAskedAt};
+ghost use Rattle.asked.specs.Asked.{lineAskedAt};
 ghost use Rattle.asked.specs.Typed.{typedAt};
 use crate::numbers::all_numbers;
 use crate::numbers::ends;
+use crate::numbers::limit;
 use crate::numbers::one_byte;
 use crate::numbers::other_count;
 use crate::numbers::two_bytes;
 use rules::Line;
 use rules::Lot;
 use rules::Tranches;
-use say::wrong;
-use words::Cursor;
-use words::Hex;
-use words::take_hex;
-
-fn line_of(tranches: u32, withdrawn: u32, exit: u32, priority: u32) -> Line
-    ensures { λ r. ⌜ r ≡ lineAsked tranches withdrawn exit priority ⌝ }
-{
-    Line {
-        tranches: Tranches(two_bytes(tranches)),
-        withdrawn: Lot {
-            count: Tranches(two_bytes(withdrawn)),
-            exit,
-        },
-        priority: one_byte(priority),
-    }
-}
+use text::Cursor;
+use text::Hex;
+use text::take_hex;
+use text::wrong;
 
 // Four numbers a product: tranches, withdrawn, exit, priority. Those that were not given are 0, as the array was made.
 pub fn lines_of(numbers: [u32; 40]) -> [Line; 8]
@@ -38,7 +26,14 @@ pub fn lines_of(numbers: [u32; 40]) -> [Line; 8]
     let mut i: usize = 0;
     while i < 8 {
         let k = i * 4;
-        let v = line_of(numbers[k], numbers[k + 1], numbers[k + 2], numbers[k + 3]);
+        let v = Line {
+            tranches: Tranches(two_bytes(numbers[k])),
+            withdrawn: Lot {
+                count: Tranches(two_bytes(numbers[k + 1])),
+                exit: numbers[k + 2],
+            },
+            priority: one_byte(numbers[k + 3]),
+        };
         list[i] = v;
         i += 1;
     }
@@ -63,19 +58,12 @@ pub fn groups(line: &[u8], c: Cursor, out: &mut [u32; 40]) -> usize
     9
 }
 
-fn groups_length(products: usize) -> usize {
-    if products <= 8 {
-        return products * 4;
-    }
-    32
-}
-
 // The groups are those of more or fewer products than the auction has.
 pub fn other_groups(line: &[u8], c: Cursor, products: usize) {
     other_count(
         line,
         c,
-        groups_length(products),
+        limit(products) as usize * 4,
         b"a bid in this auction has four numbers for each of ",
         products,
     );

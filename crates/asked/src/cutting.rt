@@ -3,11 +3,12 @@ ghost use mathlib.Core.Path.{_≡_};
 ghost use Rattle.asked.specs.Asked.{revisedAsked};
 ghost use Rattle.asked.specs.Typed.{typedAt};
 use crate::numbers::all_numbers;
+use crate::numbers::limit;
 use crate::numbers::other_count;
 use crate::numbers::two_bytes;
 use rules::Tranches;
-use say::wrong;
-use words::Cursor;
+use text::Cursor;
+use text::wrong;
 
 pub struct Revised {
     pub targets: [Tranches; 8],
@@ -51,19 +52,12 @@ pub fn pairs(line: &[u8], c: Cursor, out: &mut [u32; 40]) -> usize
     9
 }
 
-fn pairs_length(products: usize) -> usize {
-    if products <= 8 {
-        return products * 2;
-    }
-    16
-}
-
 // The pairs are those of more or fewer products than the auction has.
 pub fn other_pairs(line: &[u8], c: Cursor, products: usize) {
     other_count(
         line,
         c,
-        pairs_length(products),
+        limit(products) as usize * 2,
         b"a cutback in this auction has two numbers for each of ",
         products,
     );

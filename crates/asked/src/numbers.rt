@@ -4,26 +4,25 @@ ghost use Rattle.rules.specs.Count.{listOf};
 ghost use Prim.Native.Nat.{_≤_};
 ghost use Rattle.asked.specs.Asked.{byteOf, pairOf, drawnAt};
 ghost use Rattle.asked.specs.Typed.{limitOf, typedAt};
-use say::put;
-use say::put_named;
-use say::wrong;
-use words::Cursor;
-use words::Take;
-use words::take_number;
-use words::word;
+use text::Cursor;
+use text::Take;
+use text::take_number;
+use text::word;
+use text::wrong;
+use text::wrong_number;
 
 // How many numbers stand one after the other, and the place after them; or where one stands that is too large.
 pub enum List {
-    Found(usize, Cursor),
+    Found(u8, Cursor),
     TooLarge(usize),
 }
 
 // As many as the array has places for.
-fn limit(most: usize) -> usize
+pub fn limit(most: usize) -> u8
     ensures { λ r. ⌜ (r ≡ limitOf most) × (r ≤ 40) ⌝ }
 {
     if most < 40 {
-        return most;
+        return most as u8;
     }
     40
 }
@@ -38,7 +37,7 @@ pub fn take_numbers(line: &[u8], c: Cursor, most: usize, out: &mut [u32; 40]) ->
     while n < top {
         match take_number(line, at) {
             Take::Number(v, next) => {
-                out[n] = v;
+                out[n as usize] = v;
                 at = next;
                 n += 1;
             }
@@ -90,63 +89,41 @@ pub fn ends(line: &[u8], c: Cursor) -> bool {
     false
 }
 
-// n numbers were found and `most` may stand there: where a word is left, it is no number or too much.
-fn settled(line: &[u8], next: Cursor, n: usize, most: usize) -> usize {
-    if most <= n {
-        if ends(line, next) {
-            return n;
-        }
-        return 41;
-    }
-    let w = word(line, next);
-    let a = w.from;
-    let e = w.to;
-    if a == e {
-        return n;
-    }
-    wrong(b"not a number", a);
-    41
-}
-
 // The numbers up to the end of a line, `most` of them at most: how many there are, or 41 where something is wrong and was said.
 pub fn all_numbers(line: &[u8], c: Cursor, most: usize, out: &mut [u32; 40]) -> usize
     ensures { λ _. ⌜ now (out .exit) ≡ typedAt (now (line .entry)) c most (now (out .entry)) .numbers ⌝ }
 {
     match take_numbers(line, c, most, out) {
-        List::Found(n, next) => settled(line, next, n, most),
-        List::TooLarge(p) => {
-            too_large(p);
-            41
+        List::Found(found, next) => {
+            let n = found as usize;
+            if most <= n {
+                if ends(line, next) {
+                    return n;
+                }
+                return 41;
+            }
+            let w = word(line, next);
+            let a = w.from;
+            let e = w.to;
+            if a == e {
+                return n;
+            }
+            wrong(b"not a number", a);
         }
+        List::TooLarge(p) => too_large(p),
     }
-}
-
-// Where the word after the first `most` numbers stands, or should stand.
-fn place_after(line: &[u8], c: Cursor, most: usize) -> usize {
-    let mut out = [0u32; 40];
-    match take_numbers(line, c, most, &mut out) {
-        List::Found(_, next) => word(line, next).from,
-        List::TooLarge(p) => p,
-    }
-}
-
-fn wrong_part(text: &[u8], n: usize, at: usize) {
-    if n <= text.len() {
-        wrong(&text[0..n], at);
-    }
-}
-
-fn wrong_gathered(text: &[u8; 1024], n: usize, at: usize) {
-    wrong_part(text, n, at);
+    41
 }
 
 // Other than the `most` numbers that `products` products have, which `has` begins to say: at the first that is too many, or where
 // one is missing.
 pub fn other_count(line: &[u8], c: Cursor, most: usize, has: &[u8], products: usize) {
-    let mut text = [0u8; 1024];
-    let a = put_named(&mut text, 0, has, products as u64);
-    let b = put(&mut text, a, b" products");
-    wrong_gathered(&text, b, place_after(line, c, most));
+    let mut out = [0u32; 40];
+    let at = match take_numbers(line, c, most, &mut out) {
+        List::Found(_, next) => word(line, next).from,
+        List::TooLarge(p) => p,
+    };
+    wrong_number(has, products as u64, b" products", at);
 }
 
 // A number in the bits of a setting, a card's field or a draw. One that they do not hold becomes the largest that they hold,

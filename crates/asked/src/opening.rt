@@ -1,7 +1,8 @@
 // `open UNIT STATEWIDE product T C P .. bidder E .. row PCT DEC ..`
 ghost use mathlib.Core.Path.{_≡_};
+ghost use Prim.Native.Nat.{_<_};
 ghost use Rattle.rules.specs.Count.{listOf};
-ghost use Rattle.asked.specs.Asked.{countOf, unitNamed, productAsked, productAt, bidderAsked, rowAsked, rowAt, settingsAsked};
+ghost use Rattle.asked.specs.Asked.{bidderAsked, productAt, rowAt, settingsAsked};
 use crate::numbers::List;
 use crate::numbers::One;
 use crate::numbers::ends;
@@ -17,9 +18,9 @@ use rules::Row;
 use rules::Settings;
 use rules::Tranches;
 use rules::Unit;
-use say::wrong;
-use words::Cursor;
-use words::word;
+use text::Cursor;
+use text::word;
+use text::wrong;
 
 // The settings, where they were given; otherwise what is wrong was said.
 pub struct Opening {
@@ -29,57 +30,13 @@ pub struct Opening {
 
 // ---- From numbers to settings
 
-fn count_of(n: usize) -> u8
-    ensures { λ r. ⌜ r ≡ countOf n ⌝ }
-{
-    if n < 256 {
-        return n as u8;
-    }
-    255
-}
-
-fn unit_of(n: u8) -> Unit
-    ensures { λ r. ⌜ r ≡ unitNamed n ⌝ }
-{
-    if n == 0 {
-        return Unit::Kwh;
-    }
-    Unit::MwDay
-}
-
-fn product_of(unit: u8, target: u32, cap: u32, start: u32) -> Product
-    ensures { λ r. ⌜ r ≡ productAsked unit target cap start ⌝ }
-{
-    let price = Price::of(unit, start);
-    Product {
-        target: Tranches(two_bytes(target)),
-        cap: Tranches(two_bytes(cap)),
-        start: price,
-    }
-}
-
-fn row_of(percent: u32, decrement: u32) -> Row
-    ensures { λ r. ⌜ r ≡ rowAsked percent decrement ⌝ }
-{
-    Row {
-        percent: two_bytes(percent),
-        decrement: BasisPoints(two_bytes(decrement)),
-    }
-}
-
-fn products_of(unit: u8, numbers: [u32; 40]) -> [Product; 8]
-    ensures { λ r. ⌜ r ≡ listOf (productAt unit numbers) 8 ⌝ }
-{
-    let none = product_of(unit, 0, 0, 0);
-    let mut list = [none; 8];
-    let mut i: usize = 0;
-    while i < 8 {
-        let k = i * 3;
-        let v = product_of(unit, numbers[k], numbers[k + 1], numbers[k + 2]);
-        list[i] = v;
-        i += 1;
-    }
-    list
+// How much was typed, and of which unit.
+pub struct Sizes {
+    pub unit: Unit,
+    pub statewide: u32,
+    pub products: u8,
+    pub bidders: u8,
+    pub rows: u8,
 }
 
 fn bidders_of(numbers: [u32; 40]) -> [Tranches; 32]
@@ -96,46 +53,70 @@ fn bidders_of(numbers: [u32; 40]) -> [Tranches; 32]
     list
 }
 
-fn rows_of(numbers: [u32; 40]) -> [Row; 8]
-    ensures { λ r. ⌜ r ≡ listOf (rowAt numbers) 8 ⌝ }
+fn products_of(priced: u8, numbers: [u32; 40]) -> [Product; 8]
+    ensures { λ r. ⌜ r ≡ listOf (productAt priced numbers) 8 ⌝ }
 {
-    let none = row_of(0, 0);
+    let free = Price::of(priced, 0);
+    let none = Product {
+        target: Tranches(0),
+        cap: Tranches(0),
+        start: free,
+    };
     let mut list = [none; 8];
     let mut i: usize = 0;
     while i < 8 {
-        let k = i * 2;
-        let v = row_of(numbers[k], numbers[k + 1]);
+        let k = i * 3;
+        let start = Price::of(priced, numbers[k + 2]);
+        let target = two_bytes(numbers[k]);
+        let cap = two_bytes(numbers[k + 1]);
+        let v = Product {
+            target: Tranches(target),
+            cap: Tranches(cap),
+            start,
+        };
         list[i] = v;
         i += 1;
     }
     list
 }
 
-// How much was typed, and of which unit.
-pub struct Sizes {
-    pub unit: u8,
-    pub statewide: u32,
-    pub products: usize,
-    pub bidders: usize,
-    pub rows: usize,
+fn rows_of(numbers: [u32; 40]) -> [Row; 8]
+    ensures { λ r. ⌜ r ≡ listOf (rowAt numbers) 8 ⌝ }
+{
+    let none = Row {
+        percent: 0,
+        decrement: BasisPoints(0),
+    };
+    let mut list = [none; 8];
+    let mut i: usize = 0;
+    while i < 8 {
+        let k = i * 2;
+        let v = Row {
+            percent: two_bytes(numbers[k]),
+            decrement: BasisPoints(two_bytes(numbers[k + 1])),
+        };
+        list[i] = v;
+        i += 1;
+    }
+    list
 }
 
+// Three numbers a product: target, cap, starting price; one a bidder: eligibility; two a row: percentage, decrement. Those that were
+// not given are 0, as the arrays were made.
 fn settings_of(sizes: Sizes, products: [u32; 40], bidders: [u32; 40], rows: [u32; 40]) -> Settings
     ensures { λ r. ⌜ r ≡ settingsAsked sizes products bidders rows ⌝ }
 {
-    let unit = unit_of(sizes.unit);
-    let product = products_of(sizes.unit, products);
+    let unit = sizes.unit;
+    let priced = unit.number();
+    let product = products_of(priced, products);
     let eligibility = bidders_of(bidders);
     let row = rows_of(rows);
-    let p = count_of(sizes.products);
-    let b = count_of(sizes.bidders);
-    let r = count_of(sizes.rows);
     let statewide = Tranches(two_bytes(sizes.statewide));
     Settings {
         unit,
-        products: p,
-        bidders: b,
-        rows: r,
+        products: sizes.products,
+        bidders: sizes.bidders,
+        rows: sizes.rows,
         statewide,
         product,
         eligibility,
@@ -147,113 +128,65 @@ fn settings_of(sizes: Sizes, products: [u32; 40], bidders: [u32; 40], rows: [u32
 
 // How many groups of numbers stand after a key word, and the place after them; or that what is wrong was said.
 enum Group {
-    Found(usize, Cursor),
+    Found(u8, Cursor),
     Said,
 }
 
-// The number of a unit's name, and 2 for any other word.
-fn unit_number(w: &[u8]) -> u8 {
-    if same(w, b"kwh") {
-        return 0;
-    }
-    if same(w, b"mwday") {
-        return 1;
-    }
-    2
-}
-
-// A key word and the numbers after it; `instead` is said where another word stands.
+// A key word and groups of `each` numbers after it, one at least and `most` numbers at most. `instead` is said where another word
+// stands, `missing` where a group is not whole.
 fn listed(
     line: &[u8],
     c: Cursor,
     key: &[u8],
     instead: &[u8],
+    each: u8,
     most: usize,
+    missing: &[u8],
     out: &mut [u32; 40],
-) -> Group {
+) -> Group
+    requires { ⌜ 0 < each ⌝ }
+{
     let w = word(line, c);
     let a = w.from;
     let e = w.to;
-    if same(&line[a..e], key) {
-        match take_numbers(line, Cursor { at: e }, most, out) {
-            List::Found(n, next) => return Group::Found(n, next),
-            List::TooLarge(p) => {
-                too_large(p);
-                return Group::Said;
+    if !same(&line[a..e], key) {
+        wrong(instead, a);
+        return Group::Said;
+    }
+    match take_numbers(line, Cursor { at: e }, most, out) {
+        List::Found(n, next) => {
+            if (n != 0) & (n % each == 0) {
+                return Group::Found(n / each, next);
             }
+            wrong(missing, word(line, next).from);
         }
+        List::TooLarge(p) => too_large(p),
     }
-    wrong(instead, a);
     Group::Said
-}
-
-// n numbers, of which `over` begin a group that is not whole.
-fn whole(line: &[u8], next: Cursor, n: usize, over: usize, what: &[u8]) -> bool {
-    if n != 0 {
-        if over == 0 {
-            return true;
-        }
-    }
-    let w = word(line, next);
-    wrong(what, w.from);
-    false
 }
 
 fn products(line: &[u8], c: Cursor, out: &mut [u32; 40]) -> Group {
     let instead = b"the word product belongs here";
-    let Group::Found(n, next) = listed(line, c, b"product", instead, 24, out) else {
-        return Group::Said;
-    };
-    if whole(
-        line,
-        next,
-        n,
-        n % 3,
-        b"a product has a target, a cap and a starting price; a number is missing",
-    ) {
-        return Group::Found(n / 3, next);
-    }
-    Group::Said
+    let missing = b"a product has a target, a cap and a starting price; a number is missing";
+    listed(line, c, b"product", instead, 3, 24, missing, out)
 }
 
 fn bidders(line: &[u8], c: Cursor, out: &mut [u32; 40]) -> Group {
     let instead = b"the word bidder belongs here, after 1 to 8 products";
-    let Group::Found(n, next) = listed(line, c, b"bidder", instead, 32, out) else {
-        return Group::Said;
-    };
-    if whole(
-        line,
-        next,
-        n,
-        0,
-        b"a bidder has an initial eligibility; a number is missing",
-    ) {
-        return Group::Found(n, next);
-    }
-    Group::Said
+    let missing = b"a bidder has an initial eligibility; a number is missing";
+    listed(line, c, b"bidder", instead, 1, 32, missing, out)
 }
 
 fn rows(line: &[u8], c: Cursor, out: &mut [u32; 40]) -> Group {
     let instead = b"the word row belongs here, after 1 to 32 bidders";
-    let Group::Found(n, next) = listed(line, c, b"row", instead, 16, out) else {
-        return Group::Said;
-    };
-    if whole(
-        line,
-        next,
-        n,
-        n % 2,
-        b"a row has a percentage and a decrement; a number is missing",
-    ) {
-        return Group::Found(n / 2, next);
-    }
-    Group::Said
+    let missing = b"a row has a percentage and a decrement; a number is missing";
+    listed(line, c, b"row", instead, 2, 16, missing, out)
 }
 
 // What `open` is given where something is wrong, which was said.
 fn nothing() -> Opening {
     let sizes = Sizes {
-        unit: 0,
+        unit: Unit::Kwh,
         statewide: 0,
         products: 0,
         bidders: 0,
@@ -267,12 +200,15 @@ fn nothing() -> Opening {
     }
 }
 
-// The groups, after the unit and the statewide cap.
-fn lists(line: &[u8], c: Cursor, unit: u8, statewide: u32) -> Opening {
+// The statewide cap and the groups, after the unit.
+fn after_unit(line: &[u8], c: Cursor, unit: Unit) -> Opening {
+    let One::Number(statewide, next) = one_number(line, c) else {
+        return nothing();
+    };
     let mut p = [0u32; 40];
     let mut b = [0u32; 40];
     let mut r = [0u32; 40];
-    let Group::Found(np, after_products) = products(line, c, &mut p) else {
+    let Group::Found(np, after_products) = products(line, next, &mut p) else {
         return nothing();
     };
     let Group::Found(nb, after_bidders) = bidders(line, after_products, &mut b) else {
@@ -303,13 +239,13 @@ pub fn settings(line: &[u8], c: Cursor) -> Opening {
     let w = word(line, c);
     let a = w.from;
     let e = w.to;
-    let unit = unit_number(&line[a..e]);
-    if 1 < unit {
-        wrong(b"the unit is kwh or mwday", a);
-        return nothing();
+    let next = Cursor { at: e };
+    if same(&line[a..e], b"kwh") {
+        return after_unit(line, next, Unit::Kwh);
     }
-    let One::Number(statewide, next) = one_number(line, Cursor { at: e }) else {
-        return nothing();
-    };
-    lists(line, next, unit, statewide)
+    if same(&line[a..e], b"mwday") {
+        return after_unit(line, next, Unit::MwDay);
+    }
+    wrong(b"the unit is kwh or mwday", a);
+    nothing()
 }

@@ -9,19 +9,21 @@ use borrow.Author.Tests.{eqb-true, eqb-false, leb-false, ne-eqb}
 use lib.ListN.{length, getD, set, replicate, length-set, getD-replicate}
 use lib.Seq.{getD-set-same, getD-set-other}
 use lib.Dec.{leb, ltb, eqb}
+use mir.Val.{boolByte}
 use Rattle.rules.specs.declared.Auction.{Auction}
 use Rattle.rules.specs.declared.Line.{Line}
 use Rattle.rules.specs.declared.Record.{Record}
 use Rattle.rules.specs.Count.{allUpTo}
 use Rattle.rules.specs.Settings.{setup, capOf}
-use Rattle.rules.specs.Held.{goingIn, ticked, freeOf}
-use Rattle.rules.specs.Bid.{bidIn, withdrawnIn, oneIf, reduction, increase, recordOf, onProduct, priceAt, beforeAt, judged}
+use Rattle.rules.specs.Held.{goingIn, deniedIn, retainedIn, ticked, freeOf}
+use Rattle.rules.specs.Bid.{bidIn, withdrawnIn, exitOn, oneIf, reduction, increase, recordOf, onProduct, priceAt, beforeAt, judged}
 use Rattle.rules.proofs.Lists.{all-ext}
 use Rattle.rules.proofs.Tests.{said, is-eqb}
-use Rattle.bidline.specs.Lines.{withinCap, mayReduce, mayWithdraw, exitFits, isIncreased, hasNumber, mayNumber, numberOf}
+use Rattle.held.proofs.Found.{either, or-is}
+use Rattle.bidline.specs.declared.Kept.{Kept}
+use Rattle.bidline.specs.Lines.{isIncreased, keptWith, numberOf}
 use Rattle.bids.specs.declared.Sums.{Sums}
-use Rattle.bids.specs.declared.Kept.{Kept}
-use Rattle.bids.specs.Tally.{summed, keptWith, Small, Summed, KeptIn, Tallied, Numbers, onceEach}
+use Rattle.bids.specs.Tally.{summed, Small, Summed, KeptIn, Tallied, Numbers, onceEach}
 
 -- ---- the sums and the tests
 
@@ -53,11 +55,13 @@ module _ {m : ℕ} {r : ℕ → Record} {l : ℕ → Line} where
   unfolding allUpTo
   kept-more {a} {t} {x} s e =
       rw (e, add-one m) (record {
-        caps = ap (λ t. t && withinCap (r m) (l m) (capOf (setup a) m)) (s .caps);
-        ticks = ap (λ t. t && mayReduce (ticked a m) (r m) (l m)) (s .ticks);
-        leaves = ap (λ t. t && mayWithdraw (r m) (l m)) (s .leaves);
-        exits = ap (λ t. t && exitFits (l m) (priceAt a m) (beforeAt a m)) (s .exits);
-        others = ap (λ t. t && mayNumber (r m) (l m)) (s .others);
+        caps = ap (λ t. t && leb (bidIn (l m) + deniedIn (r m) + retainedIn (r m)) (capOf (setup a) m)) (s .caps);
+        ticks = ap₂ _&&_ (s .ticks) (or-is {t = ticked a m} {u = eqb (reduction (r m) (l m)) 0} refl refl);
+        leaves = ap (λ t. t && leb (withdrawnIn (l m)) (reduction (r m) (l m))) (s .leaves);
+        exits = ap₂ _&&_ (s .exits)
+            (either (ltb 0 (withdrawnIn (l m))) (ltb (priceAt a m) (exitOn (l m)) && leb (exitOn (l m)) (beforeAt a m))
+            (eqb (exitOn (l m)) 0));
+        others = ap₂ _&&_ (s .others) (or-is {t = isIncreased (r m) (l m)} {u = eqb (l m .priority) 0} refl refl);
         plain = ap (λ t. t && eqb (l m .priority) 0) (s .plain);
       })
 
@@ -69,7 +73,7 @@ marks-by true false x k e h = let g = leb-false x 8 e in ne-eqb x (k + 1) (λ q.
 marks-by false u x k e h = sym (ne-eqb (k + 1) 0 (λ q. omega arith))
 
 -- an increased product has the number k + 1 exactly where that is its number
-marks : (r : Record) (l : Line) (k : ℕ) → k < 8 → hasNumber r l (k + 1) ≡ eqb (k + 1) (numberOf r l)
+marks : (r : Record) (l : Line) (k : ℕ) → k < 8 → (isIncreased r l && eqb (l .priority) (k + 1)) ≡ eqb (k + 1) (numberOf r l)
 marks r l k h = marks-by (isIncreased r l) (leb (l .priority) 8) (l .priority) k refl h
 
 counted : (xs : List ℕ) (q : ℕ) → q < length xs → (i : ℕ) → getD (set xs q (getD xs q 0 + 1)) i 0 ≡ getD xs i 0 + oneIf (eqb i q)
@@ -99,6 +103,11 @@ numbers-more {m} {r} {l} {xs} q n e h =
       few = λ k g. omega (arith, counted xs q w k, n .few k g, one-at-most (eqb k q));
       each = λ k g. counted xs q w (k + 1) ∙ rw (add-one m) (ap₂ _+_ (n .each k g) (ap oneIf (ap (eqb (k + 1)) e ∙ sym (marks (r m) (l m) k g))));
     }
+
+-- whether a product is increased, as a number
+pub counts-is : (t : Bool) → (boolByte t ≡ oneIf t) × (boolByte t ≤ 1)
+counts-is true = (refl, omega arith)
+counts-is false = (refl, omega arith)
 
 pub each-is : (a : Auction) (b : ℕ) (ls : List Line) {n : ℕ} {xs : List ℕ} → Numbers (a .terms .products) (recordOf a b) (onProduct ls) xs → n ≤ 8
     → allUpTo (λ k. eqb (getD xs (k + 1) 0) 1) n ≡ onceEach a b ls n

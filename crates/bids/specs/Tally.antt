@@ -1,24 +1,24 @@
 -- What the lines of a bid come to over the first m products: the sums of "Rules of a bid", and whether each product keeps each rule.
 -- Assumes nothing.
 use mathlib.Core.Path.{_≡_}
-use mathlib.Core.Bool.{Bool, _&&_}
+use mathlib.Core.Bool.{Bool, true, _&&_, cond}
 use mathlib.Core.List.{List}
 use Prim.Native.Nat.{ℕ, _+_, _*_, _≤_, _<_}
 use lib.ListN.{length, getD}
-use lib.Dec.{eqb}
+use lib.Dec.{leb, ltb, eqb}
 use Rattle.rules.specs.declared.Auction.{Auction}
 use Rattle.rules.specs.declared.Line.{Line}
 use Rattle.rules.specs.declared.Record.{Record}
 use Rattle.rules.specs.Count.{sumUpTo, allUpTo}
 use Rattle.rules.specs.Settings.{setup, capOf}
-use Rattle.rules.specs.Held.{goingIn, ticked}
-use Rattle.rules.specs.Bid.{bidIn, withdrawnIn, oneIf, reduction, increase, reductions, increases, numbered, recordOf, onProduct, priceAt, beforeAt}
+use Rattle.rules.specs.Held.{goingIn, deniedIn, retainedIn, ticked}
+use Rattle.rules.specs.Bid.{bidIn, withdrawnIn, exitOn, oneIf, reduction, increase, reductions, increases, numbered, recordOf, onProduct, priceAt, beforeAt}
 use Rattle.rules.specs.Layout.{loaded}
 use Rattle.book.specs.Lent.{Lent}
 use Rattle.held.specs.Ticks.{Ticks}
-use Rattle.bidline.specs.Lines.{withinCap, mayReduce, mayWithdraw, exitFits, isIncreased, mayNumber}
+use Rattle.bidline.specs.declared.Kept.{Kept}
+use Rattle.bidline.specs.Lines.{isIncreased}
 use Rattle.bids.specs.declared.Sums.{Sums}
-use Rattle.bids.specs.declared.Kept.{Kept}
 
 -- a lent book, the products of it that ticked, and a bidder
 pub record Judging (s marks : List ℕ) (b : ℕ) : Type 0 where
@@ -43,16 +43,6 @@ summed t r l = record {
   rising = t .rising + oneIf (isIncreased r l);
 }
 
-abbrev pub keptWith : Kept → Record → Line → ℕ → Bool → ℕ → ℕ → Kept
-keptWith t r l cap tick p q = record {
-  caps = t .caps && withinCap r l cap;
-  ticks = t .ticks && mayReduce tick r l;
-  leaves = t .leaves && mayWithdraw r l;
-  exits = t .exits && exitFits l p q;
-  others = t .others && mayNumber r l;
-  plain = t .plain && eqb (l .priority) 0;
-}
-
 -- no sum is above 65,535 a product
 pub record Small (m : ℕ) (t : Sums) : Type 0 where
   pub going : t .going ≤ 65535 * m
@@ -71,11 +61,12 @@ pub record Summed (m : ℕ) (r : ℕ → Record) (l : ℕ → Line) (t : Sums) :
   pub rising : t .rising ≡ sumUpTo (λ p. oneIf (isIncreased (r p) (l p))) m
 
 pub record KeptIn (m : ℕ) (a : Auction) (r : ℕ → Record) (l : ℕ → Line) (t : Kept) : Type 0 where
-  pub caps : t .caps ≡ allUpTo (λ p. withinCap (r p) (l p) (capOf (setup a) p)) m
-  pub ticks : t .ticks ≡ allUpTo (λ p. mayReduce (ticked a p) (r p) (l p)) m
-  pub leaves : t .leaves ≡ allUpTo (λ p. mayWithdraw (r p) (l p)) m
-  pub exits : t .exits ≡ allUpTo (λ p. exitFits (l p) (priceAt a p) (beforeAt a p)) m
-  pub others : t .others ≡ allUpTo (λ p. mayNumber (r p) (l p)) m
+  pub caps : t .caps ≡ allUpTo (λ p. leb (bidIn (l p) + deniedIn (r p) + retainedIn (r p)) (capOf (setup a) p)) m
+  pub ticks : t .ticks ≡ allUpTo (λ p. cond (ticked a p) true (eqb (reduction (r p) (l p)) 0)) m
+  pub leaves : t .leaves ≡ allUpTo (λ p. leb (withdrawnIn (l p)) (reduction (r p) (l p))) m
+  pub exits : t .exits ≡ allUpTo (λ p.
+      cond (ltb 0 (withdrawnIn (l p))) (ltb (priceAt a p) (exitOn (l p)) && leb (exitOn (l p)) (beforeAt a p)) (eqb (exitOn (l p)) 0)) m
+  pub others : t .others ≡ allUpTo (λ p. cond (isIncreased (r p) (l p)) true (eqb (l p .priority) 0)) m
   pub plain : t .plain ≡ allUpTo (λ p. eqb (l p .priority) 0) m
 
 pub record Tallied (m : ℕ) (a : Auction) (b : ℕ) (ls : List Line) (t : Sums) (k : Kept) : Type 0 where

@@ -2,20 +2,15 @@
 // Every sum is of u16 fields, at most 8 of them, and is taken in a u32 whatever the state and the card hold.
 ghost use mathlib.Core.Path.{_≡_};
 ghost use mathlib.Core.Bool.{_&&_, cond};
-ghost use Prim.Native.Nat.{ℕ, _+_, _≤_, _<_};
-ghost use lib.ListN.{getD};
-ghost use lib.Dec.{ltb, eqb};
-ghost use Rattle.rules.specs.Count.{allUpTo};
-ghost use Rattle.rules.specs.Units.{amountOf};
-ghost use Rattle.rules.specs.Held.{freeOf};
-ghost use Rattle.rules.specs.Bid.{recordOf, onProduct, judged, slotOf};
+ghost use Prim.Native.Nat.{ℕ, _+_, _<_};
+ghost use lib.Dec.{ltb};
+ghost use Rattle.rules.specs.Bid.{recordOf, onProduct, judged};
 ghost use Rattle.rules.specs.Layout.{loaded};
-ghost use Rattle.book.specs.Lent.{Long, Lent};
-ghost use Rattle.bids.specs.Tally.{Judging, Numbering, Small, Tallied, Numbers, onceEach, summed, keptWith};
+ghost use Rattle.book.specs.Lent.{Lent};
+ghost use Rattle.bids.specs.Tally.{Judging, Numbering, Small, Tallied, Numbers, onceEach, summed};
+use bidline::Kept;
 use rules::Line;
-use rules::Price;
 use rules::Record;
-use rules::Tranches;
 
 // ---- One pass over the products
 
@@ -35,39 +30,14 @@ impl Sums {
         requires { ⌜ Small 8 self ⌝ }
         ensures { λ x. ⌜ (x ≡ summed self r l) × ((m : ℕ) → Small m self → Small (m + 1) x) ⌝ }
     {
+        let increase = bidline::increase(r, l);
         Sums {
             going: self.going + r.going.0 as u32,
             bid: self.bid + l.tranches.0 as u32,
             reduced: self.reduced + bidline::reduction(r, l),
-            increased: self.increased + bidline::increase(r, l),
+            increased: self.increased + increase,
             withdrawn: self.withdrawn + l.withdrawn.count.0 as u32,
-            rising: self.rising + bidline::one_if_increased(r, l),
-        }
-    }
-}
-
-// Whether each product passed keeps the rules of 8, 9, 11 and 12; and of 13, that one not increased is numbered 0, and that each is.
-pub struct Kept {
-    pub caps: bool,
-    pub ticks: bool,
-    pub leaves: bool,
-    pub exits: bool,
-    pub others: bool,
-    pub plain: bool,
-}
-
-impl Kept {
-    // One product more, of which the bidder has the record r and the line l, at the prices p and q.
-    fn with(self, r: Record, l: Line, cap: Tranches, tick: bool, p: Price, q: Price) -> Kept
-        ensures { λ x. ⌜ x ≡ keptWith self r l (cap .0) tick (amountOf p) (amountOf q) ⌝ }
-    {
-        Kept {
-            caps: self.caps & bidline::within_cap(r, l, cap),
-            ticks: self.ticks & bidline::may_reduce(tick, r, l),
-            leaves: self.leaves & bidline::may_withdraw(r, l),
-            exits: self.exits & bidline::exit_fits(l, p, q),
-            others: self.others & bidline::may_number(r, l),
-            plain: self.plain & (l.priority == 0),
+            rising: self.rising + (increase > 0) as u32,
         }
     }
 }
@@ -135,30 +105,7 @@ fn numbers_of(s: &[u8], b: usize, lines: [Line; 8]) -> [u8; 9]
     counts
 }
 
-// Whether each of the numbers 1 to `count` is that of just one increased product.
-fn once_each(counts: [u8; 9], count: u32) -> bool
-    requires { ⌜ count ≤ 8 ⌝ }
-    ensures { λ x. ⌜ x ≡ allUpTo (λ k. eqb (getD counts (k + 1) 0) 1) count ⌝ }
-{
-    let n = count as usize;
-    let mut ok = true;
-    let mut k: usize = 0;
-    while k < n {
-        ok = ok & (counts[k + 1] == 1);
-        k += 1;
-    }
-    ok
-}
-
 // ---- A bid in an auction
-
-fn free(s: &[u8], b: usize) -> u32
-    requires { ⌜ Long (now s) × (b < 32) ⌝ }
-    ensures { λ x. ⌜ (x ≡ freeOf (loaded (now (s .entry))) b) × (x ≤ 65535) ⌝ }
-{
-    let f = book::free(s, b);
-    f.0 as u32
-}
 
 // 13: where s is 0 every priority is 0; else "increased products .. numbered 1 to k once each, others 0".
 fn priorities_fit(s: &[u8], b: usize, lines: [Line; 8], t: Tally, switches: u32) -> bool
@@ -170,7 +117,15 @@ fn priorities_fit(s: &[u8], b: usize, lines: [Line; 8], t: Tally, switches: u32)
     if switches == 0 {
         return y.plain;
     }
-    y.others & once_each(numbers_of(s, b, lines), x.rising)
+    let counts = numbers_of(s, b, lines);
+    let n = x.rising as usize;
+    let mut once = true;
+    let mut k: usize = 0;
+    while k < n {
+        once = once & (counts[k + 1] == 1);
+        k += 1;
+    }
+    y.others & once
 }
 
 // The number where the rule is broken, else what the later rules say.
@@ -188,7 +143,7 @@ pub fn judge(s: &[u8], ticks: &[u8; 8], b: usize, lines: [Line; 8]) -> u8
     let t = tally_of(s, ticks, b, lines);
     let x = t.sums;
     let y = t.kept;
-    let f = free(s, b);
+    let f = book::free(s, b).0 as u32;
     // "Increases use free eligibility first; the others, s in all, are switches."
     let switches = bidline::less(x.increased, f);
     // "Withdrawals over all products total w = sum of R - s."
@@ -200,19 +155,4 @@ pub fn judge(s: &[u8], ticks: &[u8; 8], b: usize, lines: [Line; 8]) -> u8
     let from10 = refuse(x.going + f < x.bid, 10, from11);
     let from9 = refuse(!y.ticks, 9, from10);
     refuse(!y.caps, 8, from9)
-}
-
-// The lines that the bidder has filed.
-pub fn slot(s: &[u8], b: usize) -> [Line; 8]
-    requires { ⌜ Long (now s) × (b < 32) ⌝ }
-    ensures { λ x. ⌜ x ≡ slotOf (loaded (now (s .entry))) b ⌝ }
-{
-    let none = Line::none();
-    let mut lines = [none; 8];
-    let mut p: usize = 0;
-    while p < 8 {
-        lines[p] = book::line(s, b * 8 + p);
-        p += 1;
-    }
-    lines
 }

@@ -8,7 +8,7 @@ ghost use Rattle.rules.specs.Card.{noLine};
 ghost use Rattle.rules.specs.Settings.{setup, targetOf, capOf, startOf, initialOf, percentOf, decrementOf};
 ghost use Rattle.rules.specs.Held.{heldIn, recordAt, freeOf};
 ghost use Rattle.rules.specs.Bid.{priceAt, beforeAt, hasFiled};
-ghost use Rattle.rules.specs.Layout.{recordWidth, lineWidth, read1, read2, read3, read4, recordFrom, lineFrom, loaded};
+ghost use Rattle.rules.specs.Layout.{read1, read2, read3, loaded};
 ghost use Rattle.book.specs.Lent.{Long};
 use rules::BasisPoints;
 use rules::Decrements;
@@ -24,51 +24,25 @@ use rules::Tranches;
 
 // ---- Numbers, most significant byte first
 
-fn wide16(x: u8) -> u16
-    ensures { λ r. ⌜ (r ≡ x) × (r < 256) ⌝ }
-{
-    x as u16
-}
-
-fn wide32(x: u8) -> u32
-    ensures { λ r. ⌜ (r ≡ x) × (r < 256) ⌝ }
-{
-    x as u32
-}
-
-fn one(s: &[u8], k: usize) -> u16
+fn byte(s: &[u8], k: usize) -> u32
     requires { ⌜ k + 1 ≤ length (now s) ⌝ }
-    ensures { λ r. ⌜ r ≡ read1 (now (s .entry)) k ⌝ }
+    ensures { λ r. ⌜ (r ≡ read1 (now (s .entry)) k) × (r < 256) ⌝ }
 {
-    wide16(s[k])
+    s[k] as u32
 }
 
 fn two(s: &[u8], k: usize) -> u16
     requires { ⌜ k + 2 ≤ length (now s) ⌝ }
     ensures { λ r. ⌜ r ≡ read2 (now (s .entry)) k ⌝ }
 {
-    wide16(s[k]) * 256 + wide16(s[k + 1])
+    (byte(s, k) * 256 + byte(s, k + 1)) as u16
 }
 
 fn three(s: &[u8], k: usize) -> u32
     requires { ⌜ k + 3 ≤ length (now s) ⌝ }
     ensures { λ r. ⌜ r ≡ read3 (now (s .entry)) k ⌝ }
 {
-    wide32(s[k]) * 65536 + wide32(s[k + 1]) * 256 + wide32(s[k + 2])
-}
-
-fn four(s: &[u8], k: usize) -> u32
-    requires { ⌜ k + 4 ≤ length (now s) ⌝ }
-    ensures { λ r. ⌜ r ≡ read4 (now (s .entry)) k ⌝ }
-{
-    wide32(s[k]) * 16777216 + wide32(s[k + 1]) * 65536 + wide32(s[k + 2]) * 256 + wide32(s[k + 3])
-}
-
-// A count of entries in use.
-fn in_use(x: u8) -> usize
-    ensures { λ r. ⌜ (r ≡ x) × (r ≤ 255) ⌝ }
-{
-    x as usize
+    byte(s, k) * 65536 + byte(s, k + 1) * 256 + byte(s, k + 2)
 }
 
 // ---- The head
@@ -91,21 +65,21 @@ pub fn products(s: &[u8]) -> usize
     requires { ⌜ Long (now s) ⌝ }
     ensures { λ r. ⌜ (r ≡ loaded (now (s .entry)) .terms .products) × (r ≤ 255) ⌝ }
 {
-    in_use(s[layout::PRODUCTS])
+    byte(s, layout::PRODUCTS) as usize
 }
 
 pub fn bidders(s: &[u8]) -> usize
     requires { ⌜ Long (now s) ⌝ }
     ensures { λ r. ⌜ (r ≡ loaded (now (s .entry)) .terms .bidders) × (r ≤ 255) ⌝ }
 {
-    in_use(s[layout::BIDDERS])
+    byte(s, layout::BIDDERS) as usize
 }
 
 pub fn rows(s: &[u8]) -> usize
     requires { ⌜ Long (now s) ⌝ }
     ensures { λ r. ⌜ (r ≡ loaded (now (s .entry)) .decrements .rows) × (r ≤ 255) ⌝ }
 {
-    in_use(s[layout::ROWS])
+    byte(s, layout::ROWS) as usize
 }
 
 pub fn round(s: &[u8]) -> u16
@@ -127,7 +101,8 @@ pub fn filed(s: &[u8]) -> u32
     requires { ⌜ Long (now s) ⌝ }
     ensures { λ r. ⌜ r ≡ loaded (now (s .entry)) .cards .filed ⌝ }
 {
-    four(s, layout::FILED)
+    let k = layout::FILED;
+    byte(s, k) * 16777216 + byte(s, k + 1) * 65536 + byte(s, k + 2) * 256 + byte(s, k + 3)
 }
 
 pub fn has_filed(s: &[u8], b: usize) -> bool
@@ -143,14 +118,14 @@ pub fn target(s: &[u8], p: usize) -> Tranches
     requires { ⌜ Long (now s) × (p < 8) ⌝ }
     ensures { λ r. ⌜ r .0 ≡ targetOf (setup (loaded (now (s .entry)))) p ⌝ }
 {
-    Tranches(one(s, p * layout::LANE + layout::TARGET))
+    Tranches(byte(s, p * layout::LANE + layout::TARGET) as u16)
 }
 
 pub fn cap(s: &[u8], p: usize) -> Tranches
     requires { ⌜ Long (now s) × (p < 8) ⌝ }
     ensures { λ r. ⌜ r .0 ≡ capOf (setup (loaded (now (s .entry)))) p ⌝ }
 {
-    Tranches(one(s, p * layout::LANE + layout::CAP))
+    Tranches(byte(s, p * layout::LANE + layout::CAP) as u16)
 }
 
 // The starting price, in the auction's unit.
@@ -206,14 +181,16 @@ pub fn row(s: &[u8], i: usize) -> Row
     Row { percent, decrement }
 }
 
-fn record_at(s: &[u8], k: usize) -> Record
-    requires { ⌜ k + recordWidth ≤ length (now s) ⌝ }
-    ensures { λ r. ⌜ r ≡ recordFrom (now (s .entry)) k ⌝ }
+// The record of bidder b on product p, where k is b * 8 + p.
+pub fn record(s: &[u8], k: usize) -> Record
+    requires { ⌜ Long (now s) × (k < 256) ⌝ }
+    ensures { λ r. ⌜ r ≡ recordAt (loaded (now (s .entry)) .records) k ⌝ }
 {
-    let going = Tranches(one(s, k));
-    let denied = Tranches(one(s, k + 1));
-    let count = Tranches(one(s, k + 2));
-    let exit = three(s, k + 3);
+    let at = k * layout::RECORD + layout::RECORDS;
+    let going = Tranches(byte(s, at) as u16);
+    let denied = Tranches(byte(s, at + 1) as u16);
+    let count = Tranches(byte(s, at + 2) as u16);
+    let exit = three(s, at + 3);
     let retained = Lot { count, exit };
     Record {
         going,
@@ -222,37 +199,13 @@ fn record_at(s: &[u8], k: usize) -> Record
     }
 }
 
-// The record of bidder b on product p, where k is b * 8 + p.
-pub fn record(s: &[u8], k: usize) -> Record
-    requires { ⌜ Long (now s) × (k < 256) ⌝ }
-    ensures { λ r. ⌜ r ≡ recordAt (loaded (now (s .entry)) .records) k ⌝ }
-{
-    record_at(s, k * layout::RECORD + layout::RECORDS)
-}
-
 // What bidder b holds of product p: g + d + r.
 pub fn held(s: &[u8], k: usize) -> Tranches
     requires { ⌜ Long (now s) × (k < 256) ⌝ }
     ensures { λ r. ⌜ r .0 ≡ heldIn (recordAt (loaded (now (s .entry)) .records) k) ⌝ }
 {
     let at = k * layout::RECORD + layout::RECORDS;
-    Tranches(wide16(s[at]) + wide16(s[at + 1]) + wide16(s[at + 2]))
-}
-
-fn line_at(s: &[u8], k: usize) -> Line
-    requires { ⌜ k + lineWidth ≤ length (now s) ⌝ }
-    ensures { λ r. ⌜ r ≡ lineFrom (now (s .entry)) k ⌝ }
-{
-    let tranches = Tranches(one(s, k));
-    let count = Tranches(one(s, k + 1));
-    let exit = three(s, k + 2);
-    let withdrawn = Lot { count, exit };
-    let priority = s[k + 5];
-    Line {
-        tranches,
-        withdrawn,
-        priority,
-    }
+    Tranches((byte(s, at) + byte(s, at + 1) + byte(s, at + 2)) as u16)
 }
 
 // The line that bidder b has filed for product p, where k is b * 8 + p.
@@ -260,68 +213,52 @@ pub fn line(s: &[u8], k: usize) -> Line
     requires { ⌜ Long (now s) × (k < 256) ⌝ }
     ensures { λ r. ⌜ r ≡ getD (loaded (now (s .entry)) .cards .lines) k noLine ⌝ }
 {
-    line_at(s, k * layout::LINE + layout::BIDS)
+    let at = k * layout::LINE + layout::BIDS;
+    let tranches = Tranches(byte(s, at) as u16);
+    let count = Tranches(byte(s, at + 1) as u16);
+    let exit = three(s, at + 2);
+    let withdrawn = Lot { count, exit };
+    let priority = s[at + 5];
+    Line {
+        tranches,
+        withdrawn,
+        priority,
+    }
 }
 
-// ---- The settings as a value, to be tested as a manager's are
-
-fn items(s: &[u8]) -> [Item; 8]
+// The settings as a value, to be tested as a manager's are.
+pub fn setup(s: &[u8]) -> Setup
     requires { ⌜ Long (now s) ⌝ }
-    ensures { λ r. ⌜ r ≡ setup (loaded (now (s .entry))) .item ⌝ }
+    ensures { λ r. ⌜ r ≡ setup (loaded (now (s .entry))) ⌝ }
 {
     let none = Item {
         target: Tranches(0),
         cap: Tranches(0),
         start: 0,
     };
-    let mut all = [none; 8];
-    let mut p: usize = 0;
-    while p < 8 {
-        let x = start(s, p);
-        all[p] = Item {
-            target: target(s, p),
-            cap: cap(s, p),
-            start: x.amount(),
-        };
-        p += 1;
-    }
-    all
-}
-
-fn eligibility(s: &[u8]) -> [Tranches; 32]
-    requires { ⌜ Long (now s) ⌝ }
-    ensures { λ r. ⌜ r ≡ setup (loaded (now (s .entry))) .eligibility ⌝ }
-{
-    let mut all = [Tranches(0); 32];
-    let mut b: usize = 0;
-    while b < 32 {
-        all[b] = initial(s, b);
-        b += 1;
-    }
-    all
-}
-
-fn rows_of(s: &[u8]) -> [Row; 8]
-    requires { ⌜ Long (now s) ⌝ }
-    ensures { λ r. ⌜ r ≡ loaded (now (s .entry)) .decrements .row ⌝ }
-{
-    let none = Row {
+    let blank = Row {
         percent: 0,
         decrement: BasisPoints(0),
     };
-    let mut all = [none; 8];
+    let mut item = [none; 8];
+    let mut table = [blank; 8];
     let mut i: usize = 0;
     while i < 8 {
-        all[i] = row(s, i);
+        let x = start(s, i);
+        item[i] = Item {
+            target: target(s, i),
+            cap: cap(s, i),
+            start: x.amount(),
+        };
+        table[i] = row(s, i);
         i += 1;
     }
-    all
-}
-
-pub fn setup(s: &[u8]) -> Setup
-    requires { ⌜ Long (now s) ⌝ }
-    ensures { λ r. ⌜ r ≡ setup (loaded (now (s .entry))) ⌝ }
-{
+    let mut eligibility = [Tranches(0); 32];
+    let mut b: usize = 0;
+    while b < 32 {
+        eligibility[b] = initial(s, b);
+        b += 1;
+    }
     let statewide = statewide(s);
     let terms = Terms {
         unit: unit(s),
@@ -329,12 +266,9 @@ pub fn setup(s: &[u8]) -> Setup
         bidders: s[layout::BIDDERS],
         statewide,
     };
-    let item = items(s);
-    let eligibility = eligibility(s);
-    let row = rows_of(s);
     let decrements = Decrements {
         rows: s[layout::ROWS],
-        row,
+        row: table,
     };
     Setup {
         terms,

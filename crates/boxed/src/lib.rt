@@ -3,8 +3,8 @@ ghost use mathlib.Core.Bool.{cond};
 ghost use mathlib.Core.Path.{_≡_};
 use layout::STATE;
 use rules::Report;
-use say::line;
 use store::Saved;
+use text::line;
 
 // In the program alone; in a box file; or in a file of another length, which is never written.
 pub enum Kind {

@@ -24,12 +24,12 @@ use rules::Report;
 use rules::Reported;
 use rules::Settings;
 use rules::Volume;
-use say::line as say_line;
-use say::put;
-use say::put_named;
-use say::send;
+use text::Cursor;
+use text::line as say_line;
+use text::put;
+use text::put_named;
+use text::send;
 use told::refused;
-use words::Cursor;
 
 // ---- `open` and `return`
 

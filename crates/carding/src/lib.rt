@@ -16,12 +16,12 @@ use rules::Answer;
 use rules::Card;
 use rules::CardRead;
 use rules::Line;
-use say::line as say_line;
-use say::put;
-use say::put_hex;
-use say::send;
+use text::Cursor;
+use text::line as say_line;
+use text::put;
+use text::put_hex;
+use text::send;
 use told::refused;
-use words::Cursor;
 
 // How many bytes a card has: bidder and round take 17 bits, a product 36. A count that has no card gets none.
 fn card_length(products: usize) -> usize {

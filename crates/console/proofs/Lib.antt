@@ -1,6 +1,5 @@
 pub mod Answering
 pub mod Counting
-pub mod Opening
 pub mod Filing
 pub mod Fitting
 pub mod Rounds

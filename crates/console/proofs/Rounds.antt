@@ -7,6 +7,7 @@ use native.Mathlib.Omega.{arith}
 use borrow.Author.Tests.{ne-eqb}
 use Rattle.rules.specs.declared.Calculation.the-variants.{Done, Refused}
 use Rattle.rules.specs.Round.{drawFits}
+use Rattle.rules.specs.Answers.{Leaves}
 use Rattle.rules.specs.Layout.{loaded}
 use Rattle.rules.specs.Legal.{isOpen}
 use Rattle.rules.specs.Calls.{drawNumber, calculateNumber, calculateCall}
@@ -14,7 +15,6 @@ use Rattle.rules.proofs.Storing.{Bytes, loaded-bits}
 use Rattle.round.specs.declared.Tally.{Tally}
 use Rattle.round.specs.Ready.{Ready, Calculates}
 use Rattle.numbers.proofs.StateLaws.{stood-by}
-use Rattle.console.proofs.Answering.{Gives}
 
 fits-by : (t u : Bool) → _≡_ {A = ℕ} (cond t (cond u 0 14) 3) 0 → (t ≡ true) × (u ≡ true)
 fits-by true true e = (refl, refl)
@@ -29,10 +29,10 @@ module _ (s draw : List ℕ) (n : ℕ) (e : n ≡ calculateNumber s draw) where
       let m = fits-by (isOpen (loaded s)) (drawFits (loaded s .terms .bidders) draw) (p .1) in
       record { long = p .0 .long; stands = p .0 .stood; bits = loaded-bits s B; bidding = m .0; draw = m .1 }
 
-  pub calculate-refused : (n ≡ 0 → ⊥) → Gives (calculateCall s draw) (Refused n) s
+  pub calculate-refused : (n ≡ 0 → ⊥) → Leaves (calculateCall s draw) (Refused n) s
   unfolding calculateCall
   calculate-refused h = rw (← e, ne-eqb n 0 h) (refl, refl)
 
-  pub calculate-done : n ≡ 0 → (r : Tally) (z : List ℕ) → Calculates s draw r z → Gives (calculateCall s draw) (Done (r .kept) (r .outbid)) z
+  pub calculate-done : n ≡ 0 → (r : Tally) (z : List ℕ) → Calculates s draw r z → Leaves (calculateCall s draw) (Done (r .kept) (r .outbid)) z
   unfolding calculateCall
   calculate-done h r z C = rw (← e, h) (ap₂ Done (C .kept) (C .outbid), C .bytes)

@@ -3,7 +3,7 @@ use mathlib.Core.Path.{_≡_, refl, sym, _∙_, ap, ap₂}
 use mathlib.Core.Bool.{Bool, true, false, cond}
 use Prim.Native.Nat.{ℕ, zero, suc, _-_, _≤_, _<_, zero-le}
 use native.Mathlib.Omega.{arith}
-use native.Mathlib.Nat.{add-zero, sub-zero}
+use native.Mathlib.Nat.{add-zero, le-trans, sub-zero}
 use borrow.Author.Tests.{le-ltb, ltb-true, ltb-false, eqb-true, eqb-false, eq-eqb, ne-eqb}
 use lib.Dec.{T, ltb, eqb}
 use lib.IntN.{ℤ, pos, negsuc, natAbs, subℕ, _-ℤ_}
@@ -43,6 +43,10 @@ by-above false m n k h = h
 pub above-le : (a b : ℕ) → aboveZero (subℕ a b) ≤ a
 above-le a b = by-above (ltb a b) (b - suc a) (a - b) a (omega arith)
 
+-- a standing worked out from what is held, of at most 6,291,360
+pub standing-is : {z : ℤ} {x y a b : ℕ} → z ≡ subℕ x y → x ≡ a → y ≡ b → x ≤ 6291360 → (z ≡ subℕ a b) × (aboveZero (subℕ a b) ≤ 6291360)
+standing-is {z} {x} {y} e f g l = (e ∙ ap₂ subℕ f g, rw (← f, ← g) (le-trans (above-le x y) l))
+
 by-sign : (z : ℤ) → ltZ (pos 0) z ≡ true → T (nonNeg z) × (natAbs z ≡ aboveZero z)
 by-sign (pos n) e = (tt, refl)
 by-sign (negsuc n) e = let z : _≡_ {A = ℕ} 0 1 = cc in absurd (let f : ⊥ = omega arith in f)
@@ -55,6 +59,9 @@ no-sign (negsuc n) e = refl
 module _ (z : ℤ) (f : mag z < 2147483648) where
   pub back : toZ w32 (ofZ w32 z) ≡ z
   back = toZ-ofZ w32 z (record { sfits = f })
+
+  pub surplus-is : {r : ℕ} {y : ℤ} → r ≡ aboveZero (toZ w32 (ofZ w32 z)) → z ≡ y → r ≡ aboveZero y
+  surplus-is e g = e ∙ ap aboveZero (back ∙ g)
 
   pub above-fits : ltZ (pos 0) (toZ w32 (ofZ w32 z)) ≡ true
       → T (nonNeg (toZ w32 (ofZ w32 z))) × Fits w32 (natAbs (toZ w32 (ofZ w32 z)))

@@ -2,17 +2,14 @@
 // Every sum is of u16 fields, at most 32 or 8 of them, and is taken where it cannot wrap whatever the state holds.
 // Of two forms of a function the one that ends in `_by` is handed what is held of each product, and the other sums it (`sums`).
 ghost use mathlib.Core.Path.{_≡_};
-ghost use Prim.Native.Nat.{_-_, _≤_, _<_};
-ghost use mathlib.Core.Bool.{_&&_};
+ghost use Prim.Native.Nat.{_≤_, _<_};
 ghost use lib.ListN.{length};
 ghost use lib.Dec.{eqb};
-ghost use Rattle.rules.specs.Count.{sumUpTo};
 ghost use Rattle.rules.specs.Settings.{setup, targetOf};
-ghost use Rattle.rules.specs.Held.{heldIn, held, standing, standingOf, ticked, aboveZero, freeOf, excess};
-ghost use Rattle.rules.specs.Bid.{oneIf, recordOf, priceAt};
-ghost use Rattle.rules.specs.Round.{atBottom, stops};
+ghost use Rattle.rules.specs.Held.{held, standing, standingOf, ticked, aboveZero, excess};
+ghost use Rattle.rules.specs.Round.{stops};
 ghost use Rattle.rules.specs.Layout.{loaded};
-ghost use Rattle.book.specs.Lent.{Long, Lent};
+ghost use Rattle.book.specs.Lent.{Lent};
 ghost use Rattle.held.specs.Ticks.{Ticks};
 ghost use Rattle.held.specs.Sums.{heldOn, AllHeld, Summed};
 
@@ -32,30 +29,6 @@ pub fn held(s: &[u8], p: usize) -> u32
     sum
 }
 
-// What one bidder holds over all products.
-pub fn row_held(s: &[u8], b: usize) -> u32
-    requires { ⌜ Lent (now s) × (b < 32) ⌝ }
-    ensures { λ r. ⌜ (r ≡ sumUpTo (λ p. heldIn (recordOf (loaded (now (s .entry))) b p)) (loaded (now (s .entry)) .terms .products)) × (r ≤ 1572840) ⌝ }
-{
-    let m = book::products(s);
-    let mut sum: u32 = 0;
-    let mut p: usize = 0;
-    while p < m {
-        let own = book::record(s, b * 8 + p);
-        sum += own.held();
-        p += 1;
-    }
-    sum
-}
-
-fn target(s: &[u8], p: usize) -> u32
-    requires { ⌜ Long (now s) × (p < 8) ⌝ }
-    ensures { λ r. ⌜ (r ≡ targetOf (setup (loaded (now (s .entry)))) p) × (r ≤ 65535) ⌝ }
-{
-    let t = book::target(s, p);
-    t.0 as u32
-}
-
 // What is held of each product.
 pub fn sums(s: &[u8]) -> [u32; 8]
     requires { ⌜ Lent (now s) ⌝ }
@@ -71,25 +44,25 @@ pub fn sums(s: &[u8]) -> [u32; 8]
 }
 
 // "Standing of a product: held minus target, negative while it is short."
-fn less_target(s: &[u8], p: usize, held: u32) -> i32
-    requires { ⌜ Long (now s) × ((p < 8) × (held ≤ 6291360)) ⌝ }
-    ensures { λ r. ⌜ (r ≡ standing held (targetOf (setup (loaded (now (s .entry)))) p)) × (aboveZero (standing held (targetOf (setup (loaded (now (s .entry)))) p)) ≤ 6291360) ⌝ }
+pub fn standing_of(held: u32, target: u16) -> i32
+    requires { ⌜ held ≤ 10000000 ⌝ }
+    ensures { λ r. ⌜ r ≡ standing held target ⌝ }
 {
-    held as i32 - target(s, p) as i32
+    held as i32 - target as i32
 }
 
 pub fn standing(s: &[u8], p: usize) -> i32
     requires { ⌜ Lent (now s) × (p < 8) ⌝ }
     ensures { λ r. ⌜ (r ≡ standingOf (loaded (now (s .entry))) p) × (aboveZero (standingOf (loaded (now (s .entry))) p) ≤ 6291360) ⌝ }
 {
-    less_target(s, p, held(s, p))
+    standing_of(held(s, p), book::target(s, p).0)
 }
 
 fn standing_by(s: &[u8], held: &[u32; 8], p: usize) -> i32
     requires { ⌜ Summed (now s) (now held) × (p < 8) ⌝ }
     ensures { λ r. ⌜ (r ≡ standingOf (loaded (now (s .entry))) p) × (aboveZero (standingOf (loaded (now (s .entry))) p) ≤ 6291360) ⌝ }
 {
-    less_target(s, p, held[p])
+    standing_of(held[p], book::target(s, p).0)
 }
 
 // "A product ticked exactly when its standing after the last calculation was above zero."
@@ -100,12 +73,6 @@ pub fn ticked(s: &[u8], held: &[u32; 8], p: usize) -> bool
     standing_by(s, held, p) > 0
 }
 
-fn one_if(t: bool) -> u8
-    ensures { λ r. ⌜ r ≡ oneIf t ⌝ }
-{
-    if t { 1 } else { 0 }
-}
-
 // 1 for each product that ticked.
 pub fn ticks_by(s: &[u8], held: &[u32; 8]) -> [u8; 8]
     requires { ⌜ Summed (now s) (now held) ⌝ }
@@ -114,7 +81,7 @@ pub fn ticks_by(s: &[u8], held: &[u32; 8]) -> [u8; 8]
     let mut ticks = [0u8; 8];
     let mut p: usize = 0;
     while p < 8 {
-        ticks[p] = one_if(ticked(s, held, p));
+        ticks[p] = ticked(s, held, p) as u8;
         p += 1;
     }
     ticks
@@ -145,48 +112,27 @@ pub fn above_zero(standing: i32) -> u32
     0
 }
 
-fn surplus(s: &[u8], held: &[u32; 8], p: usize) -> u32
-    requires { ⌜ Summed (now s) (now held) × (p < 8) ⌝ }
-    ensures { λ r. ⌜ (r ≡ aboveZero (standingOf (loaded (now (s .entry))) p)) × (r ≤ 6291360) ⌝ }
-{
-    above_zero(standing_by(s, held, p))
-}
-
-fn surpluses(s: &[u8], held: &[u32; 8]) -> u32
-    requires { ⌜ Summed (now s) (now held) ⌝ }
-    ensures { λ r. ⌜ (r ≡ sumUpTo (λ p. aboveZero (standingOf (loaded (now (s .entry))) p)) (loaded (now (s .entry)) .terms .products)) × (r ≤ 50330880) ⌝ }
-{
-    let m = book::products(s);
-    let mut sum: u32 = 0;
-    let mut p: usize = 0;
-    while p < m {
-        sum += surplus(s, held, p);
-        p += 1;
-    }
-    sum
-}
-
-fn all_free(s: &[u8]) -> u32
-    requires { ⌜ Lent (now s) ⌝ }
-    ensures { λ r. ⌜ (r ≡ sumUpTo (freeOf (loaded (now (s .entry)))) (loaded (now (s .entry)) .terms .bidders)) × (r ≤ 2097120) ⌝ }
-{
-    let n = book::bidders(s);
-    let mut sum: u32 = 0;
-    let mut b: usize = 0;
-    while b < n {
-        let f = book::free(s, b);
-        sum += f.0 as u32;
-        b += 1;
-    }
-    sum
-}
-
 // "Total excess supply = the standings above zero, summed, plus all f."
 pub fn excess_by(s: &[u8], held: &[u32; 8]) -> u32
     requires { ⌜ Summed (now s) (now held) ⌝ }
     ensures { λ r. ⌜ (r ≡ excess (loaded (now (s .entry)))) × (r ≤ 52428000) ⌝ }
 {
-    surpluses(s, held) + all_free(s)
+    let m = book::products(s);
+    let mut over: u32 = 0;
+    let mut p: usize = 0;
+    while p < m {
+        over += above_zero(standing_by(s, held, p));
+        p += 1;
+    }
+    let n = book::bidders(s);
+    let mut free: u32 = 0;
+    let mut b: usize = 0;
+    while b < n {
+        let f = book::free(s, b);
+        free += f.0 as u32;
+        b += 1;
+    }
+    over + free
 }
 
 pub fn excess(s: &[u8]) -> u32
@@ -196,34 +142,19 @@ pub fn excess(s: &[u8]) -> u32
     excess_by(s, &sums(s))
 }
 
-fn fell_to_one(s: &[u8], held: &[u32; 8], p: usize) -> bool
-    requires { ⌜ Summed (now s) (now held) × (p < 8) ⌝ }
-    ensures { λ r. ⌜ r ≡ ticked (loaded (now (s .entry))) p && eqb (priceAt (loaded (now (s .entry))) p) 1 ⌝ }
-{
-    ticked(s, held, p) & (book::price(s, p).amount() == 1)
-}
-
-// Whether a product above target is at price 1.
-fn at_bottom(s: &[u8], held: &[u32; 8]) -> bool
-    requires { ⌜ Summed (now s) (now held) ⌝ }
-    ensures { λ r. ⌜ r ≡ atBottom (loaded (now (s .entry))) ⌝ }
-{
-    let m = book::products(s);
-    let mut one = false;
-    let mut p: usize = 0;
-    while p < m {
-        one = one | fell_to_one(s, held, p);
-        p += 1;
-    }
-    one
-}
-
 // "A product above target is at price 1, or this was round 4,095."
 pub fn stops_by(s: &[u8], held: &[u32; 8]) -> bool
     requires { ⌜ Summed (now s) (now held) ⌝ }
     ensures { λ r. ⌜ r ≡ stops (loaded (now (s .entry))) ⌝ }
 {
-    at_bottom(s, held) | (book::round(s) == 4095)
+    let m = book::products(s);
+    let mut bottom = false;
+    let mut p: usize = 0;
+    while p < m {
+        bottom = bottom | (ticked(s, held, p) & (book::price(s, p).amount() == 1));
+        p += 1;
+    }
+    bottom | (book::round(s) == 4095)
 }
 
 pub fn stops(s: &[u8]) -> bool

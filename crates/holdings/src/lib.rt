@@ -1,38 +1,18 @@
 // Document 01, "Standing means": the clauses on prices, records and eligibility. What each says is in the crate rules,
 // specs/Standing.antt.
 ghost use mathlib.Core.Path.{_≡_};
-ghost use mathlib.Core.Bool.{_&&_, cond};
+ghost use mathlib.Core.Bool.{cond};
 ghost use Prim.Native.Nat.{_<_};
-ghost use lib.Dec.{ltb, eqb};
 ghost use Rattle.rules.specs.Count.{allUpTo};
 ghost use Rattle.rules.specs.Units.{amountOf};
-ghost use Rattle.rules.specs.Settings.{setup, targetOf};
-ghost use Rattle.rules.specs.Held.{ticked};
-ghost use Rattle.rules.specs.Legal.{implies, isOpen, keptOn, productStands, recordZero, recordWithin, bidderStands};
+ghost use Rattle.rules.specs.Legal.{productStands, recordZero, recordWithin, bidderStands};
 ghost use Rattle.rules.specs.Layout.{loaded};
 ghost use Rattle.book.specs.Lent.{Lent};
-ghost use Rattle.held.specs.Sums.{heldOn, Counted};
+ghost use Rattle.held.specs.Sums.{Counted};
 ghost use Rattle.holdings.specs.Pass.{ColumnOf, ColumnsOf};
 use rules::Price;
 use rules::Record;
 use rules::Tranches;
-
-// One of two answers, as the test says.
-fn choose(t: bool, x: bool, y: bool) -> bool
-    ensures { λ r. ⌜ r ≡ cond t x y ⌝ }
-{
-    if t { x } else { y }
-}
-
-// "q > p where held exceeds target (in the open phase) or a tranche is kept"; "kept tranches only where held equals target"
-fn fell_where_due(s: &[u8], held: &[u32; 8], kept: &[u32; 8], p: usize, fell: bool) -> bool
-    requires { ⌜ Counted (now s) (now held) (now kept) × (p < 8) ⌝ }
-    ensures { λ r. ⌜ r ≡ implies (isOpen (loaded (now (s .entry))) && ticked (loaded (now (s .entry))) p) fell && implies (ltb 0 (keptOn (loaded (now (s .entry))) p)) (fell && eqb (heldOn (loaded (now (s .entry))) p) (targetOf (setup (loaded (now (s .entry)))) p)) ⌝ }
-{
-    let over = choose((book::phase(s) == 1) & held::ticked(s, held, p), fell, true);
-    let due = choose(kept[p] > 0, fell & held::met(s, held, p), true);
-    over & due
-}
 
 fn product_stands(s: &[u8], held: &[u32; 8], kept: &[u32; 8], p: usize) -> bool
     requires { ⌜ Counted (now s) (now held) (now kept) × (p < 8) ⌝ }
@@ -45,7 +25,12 @@ fn product_stands(s: &[u8], held: &[u32; 8], kept: &[u32; 8], p: usize) -> bool
     }
     // "1 <= p <= q, q at most the starting price"
     let start = book::start(s, p).amount();
-    (1 <= x) & ((x <= q) & ((q <= start) & fell_where_due(s, held, kept, p, x < q)))
+    // "q > p where held exceeds target (in the open phase) or a tranche is kept"; "kept tranches only where held equals target"
+    let fell = x < q;
+    let over = (book::phase(s) == rules::OPEN) & held::ticked(s, held, p);
+    let some = kept[p] > 0;
+    let due = (!over | fell) & (!some | (fell & held::met(s, held, p)));
+    (1 <= x) & ((x <= q) & ((q <= start) & due))
 }
 
 pub fn products_stand(s: &[u8], held: &[u32; 8], kept: &[u32; 8]) -> bool
@@ -61,25 +46,15 @@ pub fn products_stand(s: &[u8], held: &[u32; 8], kept: &[u32; 8]) -> bool
     ok
 }
 
-// "retained exits above p, at most q, and 0 where r is 0"; "each bidder within product caps"
-fn record_within(p: Price, q: Price, cap: Tranches, r: Record) -> bool
-    ensures { λ o. ⌜ o ≡ recordWithin (amountOf p) (amountOf q) (cap .0) r ⌝ }
-{
-    let exit = r.retained.exit;
-    let fits = choose(
-        r.retained.count.0 > 0,
-        (p.amount() < exit) & (exit <= q.amount()),
-        exit == 0,
-    );
-    fits & (r.held() <= cap.0 as u32)
-}
-
-// Past the bidders or products in use a record is 0.
+// "retained exits above p, at most q, and 0 where r is 0"; "each bidder within product caps"; past the bidders or products in use 0
 fn record_stands(used: bool, p: Price, q: Price, cap: Tranches, r: Record) -> bool
     ensures { λ o. ⌜ o ≡ cond used (recordWithin (amountOf p) (amountOf q) (cap .0) r) (recordZero r) ⌝ }
 {
     if used {
-        return record_within(p, q, cap, r);
+        let exit = r.retained.exit;
+        let some = r.retained.count.0 > 0;
+        let within = (p.amount() < exit) & (exit <= q.amount());
+        return ((some & within) | (!some & (exit == 0))) & (r.held() <= cap.0 as u32);
     }
     r.is_zero()
 }
@@ -156,8 +131,16 @@ fn bidder_stands(s: &[u8], b: usize) -> bool
     if b >= book::bidders(s) {
         return f.0 == 0;
     }
+    let m = book::products(s);
+    let mut sum: u32 = 0;
+    let mut p: usize = 0;
+    while p < m {
+        let own = book::record(s, b * 8 + p);
+        sum += own.held();
+        p += 1;
+    }
     let most = book::initial(s, b);
-    held::row_held(s, b) + f.0 as u32 <= most.0 as u32
+    sum + f.0 as u32 <= most.0 as u32
 }
 
 pub fn bidders_stand(s: &[u8]) -> bool

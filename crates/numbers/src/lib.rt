@@ -4,8 +4,9 @@ ghost use mathlib.Core.Path.{_≡_};
 ghost use Rattle.rules.specs.Calls.{countNumber, calculateNumber, cutbackNumber, reportNumber, resultNumber};
 ghost use Rattle.numbers.specs.State.{stateNumber};
 use layout::STATE;
+use rules::CLOSED;
+use rules::OPEN;
 use rules::Tranches;
-
 // 1, 2, and 3 for an issued state, which has no auction; 0 where the state stands.
 pub fn state_number(s: &[u8]) -> u8
     ensures { λ r. ⌜ r ≡ stateNumber (now (s .entry)) ⌝ }
@@ -16,7 +17,7 @@ pub fn state_number(s: &[u8]) -> u8
     if state::is_zero(s) {
         return 3;
     }
-    if standing::stands(s) {
+    if legal::stands(s) {
         return 0;
     }
     2
@@ -30,7 +31,7 @@ pub fn count_number(s: &[u8]) -> u8
     if n != 0 {
         return n;
     }
-    if book::phase(s) == 1 {
+    if book::phase(s) == OPEN {
         return 0;
     }
     3
@@ -44,7 +45,7 @@ pub fn calculate_number(s: &[u8], draw: &[u8]) -> u8
     if n != 0 {
         return n;
     }
-    if book::phase(s) != 1 {
+    if book::phase(s) != OPEN {
         return 3;
     }
     if draw::draw_fits(draw, book::bidders(s)) {
@@ -61,7 +62,7 @@ pub fn cutback_number(s: &[u8], targets: [Tranches; 8], caps: [Tranches; 8]) -> 
     if n != 0 {
         return n;
     }
-    if book::phase(s) != 1 {
+    if book::phase(s) != OPEN {
         return 3;
     }
     if cutback::may_cut(s, targets, caps) {
@@ -81,10 +82,7 @@ pub fn report_number(s: &[u8], bidder: u8) -> u8
     if bidder as usize >= book::bidders(s) {
         return 6;
     }
-    if book::phase(s) != 1 {
-        return 0;
-    }
-    if book::round(s) == 1 {
+    if (book::phase(s) == OPEN) & (book::round(s) == 1) {
         return 18;
     }
     0
@@ -101,7 +99,7 @@ pub fn result_number(s: &[u8]) -> u8
     if n != 0 {
         return n;
     }
-    if book::phase(s) == 2 {
+    if book::phase(s) == CLOSED {
         return 0;
     }
     16

@@ -5,9 +5,9 @@ use answers::Kind;
 use answers::answer;
 use layout::STATE;
 pub use start::run;
-use words::Input;
-use words::keep_rest;
-use words::next_end;
+use text::Input;
+use text::keep_rest;
+use text::next_end;
 ghost use Prim.Native.Nat.{_≤_};
 ghost use Rattle.rules.specs.Uses.{Called, Reached};
 ghost use lib.ListN.{length};
@@ -71,7 +71,7 @@ fn turn(buf: &mut [u8], from: Input, kind: Kind, path: &[u8], state: &mut [u8; S
     let end = from.end;
     let skipping = from.skipping;
     if buf.len() <= end {
-        say::line(b"error the line is longer than 2048 bytes\n");
+        text::line(b"error the line is longer than 2048 bytes\n");
         return Input::skipped();
     }
     let got = libc::read(0, &mut buf[end..]);

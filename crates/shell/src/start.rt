@@ -2,10 +2,10 @@
 use crate::serve;
 use answers::Kind;
 use layout::STATE;
-use say::put;
-use say::put_named;
-use say::send;
 use store::Loaded;
+use text::put;
+use text::put_named;
+use text::send;
 
 fn number(why: i32) -> u64 {
     if 0 < why {
@@ -55,7 +55,7 @@ fn serve_box(path: &[u8]) {
 
 pub fn run() {
     if 2 < os::arg_count() {
-        say::line(b"error one box at most can be named\n");
+        text::line(b"error one box at most can be named\n");
         return;
     }
     let mut path = io::buffer();
@@ -71,7 +71,7 @@ pub fn run() {
         return;
     }
     if n == 0 {
-        say::line(b"error the name of the box is empty\n");
+        text::line(b"error the name of the box is empty\n");
         return;
     }
     serve_box(&path[..n]);

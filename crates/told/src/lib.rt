@@ -9,9 +9,9 @@ use rules::Quote;
 use rules::Range;
 use rules::Record;
 use rules::Tranches;
-use say::put;
-use say::put_named;
-use say::send;
+use text::put;
+use text::put_named;
+use text::send;
 
 pub fn phase_word(out: &mut [u8; 1024], at: usize, phase: Phase) -> usize {
     match phase {

@@ -1,7 +1,7 @@
 // `refused N WORDS`: a refusal's number, and the words of documents 01 and 02 for it.
-use say::put;
-use say::put_named;
-use say::send;
+use text::put;
+use text::put_named;
+use text::send;
 
 fn card_words(out: &mut [u8; 1024], at: usize, n: u8) -> usize {
     match n {
@@ -60,7 +60,7 @@ pub fn refused(n: u8) {
 // "bids not open (for report: issued)"
 pub fn refused_report(n: u8) {
     if n == 3 {
-        say::line(b"refused 3 issued\n");
+        text::line(b"refused 3 issued\n");
         return;
     }
     refused(n);

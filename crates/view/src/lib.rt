@@ -3,9 +3,9 @@ ghost use Prim.Native.Nat.{_≤_, _<_};
 use layout::STATE;
 use rules::Phase;
 use rules::Record;
-use say::put;
-use say::put_named;
-use say::send;
+use text::put;
+use text::put_named;
+use text::send;
 use told::phase_word;
 
 fn unit_word(out: &mut [u8; 1024], at: usize, unit: u8) -> usize {

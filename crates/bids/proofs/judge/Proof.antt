@@ -9,9 +9,9 @@ use Rattle.bids.proofs.judge.Tie as tie
 add-refuse : tie.Need-add-refuse
 add-refuse c =
     let f = c .before .before .before .before .before .before .before .before .before .before in
-    let s = f .before .before .before .tally-of .ensures .small in
-    let m = f .before .before .before .before .before .pre .lent .counts .products in
-    let h = f .free .ensures .1 in
+    let s = f .before .before .before .before .tally-of .ensures .small in
+    let m = f .before .before .before .before .before .before .pre .lent .counts .products in
+    let h = f .struct-known in
     omega arith
 
 returns : tie.Need-returns
@@ -22,9 +22,9 @@ returns c =
     let from13 = from12 .before .before in
     let w = from13 .before .before in
     let s = w .before in
-    let f = s .before .free in
-    let t = s .before .before .before .before .tally-of in
-    let a = s .before .before .before .before .before .before .args in
+    let f = s .before .before .free in
+    let t = s .before .before .before .before .before in
+    let a = t .before .before .args in
     c .refuse6 .ensures
     ∙ rw (
       c .before .before .refuse5 .ensures,
@@ -36,11 +36,11 @@ returns c =
       w .less2 .ensures .0,
       s .less .ensures .0,
     )
-    (judged-is (loaded (a .s .now)) (a .b) (a .lines) (t .result .sums) (t .result .kept) (f .result) (t .ensures) (f .ensures .0))
+    (judged-is (loaded (a .s .now)) (a .b) (a .lines) (t .tally-of .result .sums) (t .tally-of .result .kept) (f .result .0) (t .tally-of .ensures) (f .ensures))
 
 pub judge-spec : {M : Type 1} → statement M
 judge-spec =
     tie.close
-    (tie.spec (λ c κs. search needs) (λ c κs. search needs) (λ c κs. search needs) (λ c κs. search needs) (λ c κs. search needs)
-    (λ c κs. search needs) (λ c κs. search needs) (λ c κs. search needs) add-refuse (λ c κs. search needs) (λ c κs. search needs)
-    (λ c κs. search needs) returns)
+    (tie.spec (λ c κs. search needs) (λ c κs. search needs) (λ c. search needs) (λ c κs. search needs) (λ c κs. search needs)
+    (λ c κs. search needs) (λ c κs. search needs) (λ c κs. search needs) (λ c κs. search needs) add-refuse (λ c κs. search needs)
+    (λ c κs. search needs) (λ c κs. search needs) returns)

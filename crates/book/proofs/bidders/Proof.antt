@@ -5,7 +5,7 @@ use Rattle.book.proofs.bidders.Statement.{statement}
 use Rattle.book.proofs.bidders.Tie as tie
 
 returns : tie.Need-returns
-returns c = (c .in-use .ensures .0 ∙ bidders-at _, c .in-use .ensures .1)
+returns c = (c .byte .ensures .0 ∙ bidders-at _, search needs)
 
 pub bidders-spec : {M : Type 1} → statement M
-bidders-spec = tie.close (tie.spec (λ c. search needs) (λ c κs. search needs) returns)
+bidders-spec = tie.close (tie.spec (λ c κs. search needs) (λ c. search needs) returns)

@@ -5,7 +5,7 @@ use Rattle.book.proofs.products.Statement.{statement}
 use Rattle.book.proofs.products.Tie as tie
 
 returns : tie.Need-returns
-returns c = (c .in-use .ensures .0 ∙ products-at _, c .in-use .ensures .1)
+returns c = (c .byte .ensures .0 ∙ products-at _, search needs)
 
 pub products-spec : {M : Type 1} → statement M
-products-spec = tie.close (tie.spec (λ c. search needs) (λ c κs. search needs) returns)
+products-spec = tie.close (tie.spec (λ c κs. search needs) (λ c. search needs) returns)

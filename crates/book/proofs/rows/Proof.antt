@@ -5,7 +5,7 @@ use Rattle.book.proofs.rows.Statement.{statement}
 use Rattle.book.proofs.rows.Tie as tie
 
 returns : tie.Need-returns
-returns c = (c .in-use .ensures .0 ∙ rows-at _, c .in-use .ensures .1)
+returns c = (c .byte .ensures .0 ∙ rows-at _, search needs)
 
 pub rows-spec : {M : Type 1} → statement M
-rows-spec = tie.close (tie.spec (λ c. search needs) (λ c κs. search needs) returns)
+rows-spec = tie.close (tie.spec (λ c κs. search needs) (λ c. search needs) returns)

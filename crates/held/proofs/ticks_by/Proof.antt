@@ -2,7 +2,7 @@ use mathlib.Core.Path.{_∙_, ap}
 use Prim.Native.Nat.{_-_}
 use borrow.Author.Needs.{needs}
 use lib.Dec.{eqb}
-use Rattle.rules.specs.Bid.{oneIf}
+use mir.Val.{boolByte}
 use Rattle.rules.specs.Held.{ticked}
 use Rattle.rules.specs.Layout.{loaded}
 use Rattle.rules.proofs.Fill.{Filled, all-filled, none-filled, one-more}
@@ -13,7 +13,7 @@ use Rattle.held.proofs.ticks_by.Statement.{statement}
 use Rattle.held.proofs.ticks_by.Tie as tie
 
 abbrev Inv-loop : tie.InvT-loop
-Inv-loop s held ticks₀ p₀ ticks p = Filled (λ p. oneIf (ticked (loaded s) p)) 8 p ticks
+Inv-loop s held ticks₀ p₀ ticks p = Filled (λ p. boolByte (ticked (loaded s) p)) 8 p ticks
 
 abbrev μ-loop : tie.MeasureT-loop
 μ-loop s held ticks₀ p₀ ticks p = 8 - p
@@ -22,9 +22,7 @@ loop-holds : tie.Need-loop-holds Inv-loop μ-loop
 loop-holds c = none-filled _ (search needs)
 
 loop-again : tie.Need-loop-again Inv-loop μ-loop
-loop-again c =
-    one-more _ (c .before .before .before .loop .inv) (c .before .before .loop-test .taken)
-    (c .one-if .ensures ∙ ap oneIf (c .before .ticked .ensures))
+loop-again c = one-more _ (c .before .before .loop .inv) (c .before .loop-test .taken) (ap boolByte (c .ticked .ensures))
 
 returns : tie.Need-returns Inv-loop μ-loop
 returns c =
@@ -34,5 +32,5 @@ returns c =
 pub ticks-by-spec : {M : Type 1} → statement M
 ticks-by-spec =
     tie.close
-    (tie.spec Inv-loop μ-loop loop-holds (λ c κs. search needs) (λ c κs. search needs) (λ c. search needs) (λ c. search needs)
+    (tie.spec Inv-loop μ-loop loop-holds (λ c κs. search needs) (λ c. search needs) (λ c. search needs) (λ c. search needs)
     (λ c. search needs) loop-again returns)

@@ -17,13 +17,15 @@ returns-2 c = said _ (stood (c .before .before)) 3 (drawNumber (c .before .befor
 
 returns-3 : tie.Need-returns-3
 returns-3 c =
-    said _ (stood (c .before .before .before .before .before)) 3 (drawNumber (c .before .before .before .before .before .before .before .before .before .args .draw .now)) 0
-    (rw (eq-eqb _ 1 (sym (c .before .before .before .before .phase .ensures) ∙ c .before .before .before .if2 .left), ← c .before .before .bidders .ensures .0, ← c .before .draw-fits .ensures, c .if3 .taken))
+    let d = c .before .before .before in
+    said _ (stood (d .before .before)) 3 (drawNumber (d .before .before .before .before .before .before .args .draw .now)) 0
+    (rw (eq-eqb _ 1 (sym (d .before .phase .ensures) ∙ d .if2 .left), ← c .before .before .bidders .ensures .0, ← c .before .draw-fits .ensures, c .if3 .taken))
 
 returns-4 : tie.Need-returns-4
 returns-4 c =
-    said _ (stood (c .before .before .before .before .before)) 3 (drawNumber (c .before .before .before .before .before .before .before .before .before .args .draw .now)) 14
-    (rw (eq-eqb _ 1 (sym (c .before .before .before .before .phase .ensures) ∙ c .before .before .before .if2 .left), ← c .before .before .bidders .ensures .0, ← c .before .draw-fits .ensures, c .if3 .left))
+    let d = c .before .before .before in
+    said _ (stood (d .before .before)) 3 (drawNumber (d .before .before .before .before .before .before .args .draw .now)) 14
+    (rw (eq-eqb _ 1 (sym (d .before .phase .ensures) ∙ d .if2 .left), ← c .before .before .bidders .ensures .0, ← c .before .draw-fits .ensures, c .if3 .left))
 
 pub calculate-number-spec : {M : Type 1} → statement M
 calculate-number-spec =

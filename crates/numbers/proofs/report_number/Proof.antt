@@ -26,20 +26,19 @@ returns-2 c =
     (rw (le-ltb (a .bidder) (loaded (a .s .now) .terms .bidders) (omega (arith, c .if2 .taken, c .before .bidders .ensures .0))))
 
 returns-3 : tie.Need-returns-3
-returns-3 c = said _ (stood (c .before .before .before .before)) 3 (bidderNumber (c .before .before .before .before .before .before .before .args .bidder)) 0 (rw (in-use (c .before .before), ne-eqb _ 1 (λ e. c .if3 .taken (c .before .phase .ensures ∙ e))))
+returns-3 c =
+    let d = c .before .before .before in
+    said _ (stood (d .before .before)) 3 (bidderNumber (d .before .before .before .before .before .args .bidder)) 18
+    (rw (in-use d, ← c .before .before .phase .ensures, ← c .before .round .ensures, c .if3 .taken))
 
 returns-4 : tie.Need-returns-4
 returns-4 c =
-    said _ (stood (c .before .before .before .before .before .before)) 3 (bidderNumber (c .before .before .before .before .before .before .before .before .before .args .bidder)) 18
-    (rw (in-use (c .before .before .before .before), eq-eqb _ 1 (sym (c .before .before .before .phase .ensures) ∙ c .before .before .if3 .left), eq-eqb _ 1 (sym (c .before .round .ensures) ∙ c .if4 .taken)))
-
-returns-5 : tie.Need-returns-5
-returns-5 c =
-    said _ (stood (c .before .before .before .before .before .before)) 3 (bidderNumber (c .before .before .before .before .before .before .before .before .before .args .bidder)) 0
-    (rw (in-use (c .before .before .before .before), eq-eqb _ 1 (sym (c .before .before .before .phase .ensures) ∙ c .before .before .if3 .left), ne-eqb _ 1 (λ e. c .if4 .left (c .before .round .ensures ∙ e))))
+    let d = c .before .before .before in
+    said _ (stood (d .before .before)) 3 (bidderNumber (d .before .before .before .before .before .args .bidder)) 0
+    (rw (in-use d, ← c .before .before .phase .ensures, ← c .before .round .ensures, c .if3 .left))
 
 pub report-number-spec : {M : Type 1} → statement M
 report-number-spec =
     tie.close
-    (tie.spec (λ c κs. search needs) returns (λ c κs. stood c .long) returns-2 (λ c κs. stood (c .before .before) .long) returns-3
-    (λ c κs. stood (c .before .before .before .before) .long) returns-4 returns-5)
+    (tie.spec (λ c κs. search needs) returns (λ c κs. stood c .long) returns-2 (λ c κs. stood (c .before .before) .long)
+    (λ c κs. stood (c .before .before .before) .long) returns-3 returns-4)

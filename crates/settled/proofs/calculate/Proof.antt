@@ -1,10 +1,15 @@
+use Rattle.rules.specs.Calls.{calculateCall}
+use Rattle.settled.proofs.Twice.{twice}
 use borrow.Author.Needs.{needs}
-use Rattle.rules.proofs.Settling.{leaves-one}
 use Rattle.settled.proofs.calculate.Statement.{statement}
 use Rattle.settled.proofs.calculate.Tie as tie
 
 returns : tie.Need-returns
-returns c = leaves-one _ _ _ _ _ (cc, cc) (c .before .before .calculate2 .ensures)
+returns c =
+    let first = c .before .before .before .before .before .before in
+    let start = first .before .before .before .before .before in
+    let a = start .args in
+    twice (λ s. calculateCall s (a .draw .now)) _ _ _ _ _ _ (start .pre) (first .calculate .ensures) (c .before .before .calculate2 .ensures)
 
 pub calculate-spec : {M : Type 1} → statement M
 calculate-spec = tie.close (tie.spec (λ c κs. search needs) (λ c κs. search needs) (λ c. search needs) (λ c. search needs) returns)

@@ -12,19 +12,17 @@ Inv-loop numbers list₀ i₀ list i = Filled (lineAskedAt numbers) 8 i list
 abbrev μ-loop : tie.MeasureT-loop
 μ-loop numbers list₀ i₀ list i = 8 - i
 
-loop-holds : tie.Need-loop-holds Inv-loop μ-loop
-loop-holds c = none-filled _ (search needs)
-
 loop-again : tie.Need-loop-again Inv-loop μ-loop
-loop-again c = one-more _ (c .before .before .loop .inv) (omega arith) (c .line-of .ensures)
-
-returns : tie.Need-returns Inv-loop μ-loop
-returns c = all-filled (c .before .loop .inv) (omega arith)
+loop-again c =
+    let t = c .before .before in
+    one-more _ (t .before .before .loop .inv) (omega arith)
+    (rw (c .one-byte .ensures, c .before .two-bytes2 .ensures, t .two-bytes .ensures))
 
 pub lines-of-spec : {M : Type 1} → statement M
 lines-of-spec =
     tie.close
-    (tie.spec Inv-loop μ-loop (λ c κs. search needs) loop-holds (λ c. search needs) (λ c. search needs) (λ c. search needs)
+    (tie.spec Inv-loop μ-loop (λ c κs. search needs) (λ c. none-filled _ (search needs)) (λ c. search needs) (λ c. search needs)
+    (λ c. search needs) (λ c κs. search needs) (λ c. search needs) (λ c. search needs) (λ c. search needs) (λ c κs. search needs)
     (λ c. search needs) (λ c. search needs) (λ c. search needs) (λ c. search needs) (λ c. search needs) (λ c. search needs)
-    (λ c. search needs) (λ c. search needs) (λ c. search needs) (λ c κs. search needs) (λ c. search needs) (λ c. search needs)
-    (λ c. search needs) (λ c. search needs) loop-again returns)
+    (λ c κs. search needs) (λ c. search needs) (λ c. search needs) (λ c. search needs) (λ c. search needs) loop-again
+    (λ c. all-filled (c .before .loop .inv) (omega arith)))

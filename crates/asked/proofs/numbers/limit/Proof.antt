@@ -10,4 +10,4 @@ returns-2 : tie.Need-returns-2
 returns-2 c = (search (le-ltb), search needs)
 
 pub limit-spec : {M : Type 1} → statement M
-limit-spec = tie.close (tie.spec returns returns-2)
+limit-spec = tie.close (tie.spec (λ c. search needs) returns returns-2)

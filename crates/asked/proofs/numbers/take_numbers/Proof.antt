@@ -35,5 +35,5 @@ pub take-numbers-spec : {M : Type 1} → statement M
 take-numbers-spec =
     tie.close
     (tie.spec Inv-loop μ-loop (λ c κs. search needs) loop-holds (λ c κs. search needs) (λ c. search needs) (λ c. search needs)
-    (λ c. search needs) (λ c. search needs) (λ c. search needs) loop-again (λ c. search needs) returns (λ c. search needs) returns-2
-    (λ c. search needs) returns-3 returns-4)
+    (λ c. search needs) (λ c. search needs) (λ c. search needs) (λ c. search needs) loop-again (λ c. search needs) returns
+    (λ c. search needs) returns-2 (λ c. search needs) returns-3 returns-4)

@@ -1,0 +1,5 @@
+pub mod Nibble
+pub mod Words
+pub mod Number
+pub mod Hex
+pub mod Put

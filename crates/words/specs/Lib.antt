@@ -1,4 +1,0 @@
-pub mod Nibble
-pub mod Words
-pub mod Number
-pub mod Hex
