@@ -1,41 +1,27 @@
 // The bid card: "Bits packed most significant first: bidder 5, round 12; then for each product in rank: tranches 8,
 // withdrawn 8, exit price 17, switching priority 3. Zero bits fill the last byte."
 ghost use mathlib.Core.Path.{_≡_};
-ghost use mathlib.Core.Bool.{_&&_, cond};
-ghost use Prim.Native.Nat.{_+_, _*_, _^_, _≤_, _<_};
-ghost use lib.ListN.{length, replicate};
-ghost use lib.Dec.{ltb};
+ghost use Prim.Native.Nat.{_+_, _*_, _≤_};
+ghost use lib.ListN.{length};
 ghost use Rattle.rules.specs.Count.{allUpTo};
-ghost use Rattle.rules.specs.Card.{lineBit, cardLength, lineAt, readLines, readRefused, readCard, putLine, putLines, lineFits, lineZero, writeCard};
+ghost use Rattle.rules.specs.Card.{cardLength, lineAt, readLines, readRefused, readCard, putLine, putLines, writeCard};
 ghost use Rattle.card.specs.Parts.{lineWritable};
-use bits::field;
 use bits::put_field;
 use bits::value;
 use rules::Answer;
 use rules::Card;
 use rules::CardRead;
-use rules::Field;
 use rules::Line;
 use rules::Lot;
 use rules::Tranches;
 
 // ---- places
 
-// Where the line of a product begins, and so how many bits so many products take.
-fn line_bit(product: usize) -> usize
-    requires { ⌜ product ≤ 8 ⌝ }
-    ensures { λ r. ⌜ r ≡ lineBit product ⌝ }
-{
-    17 + 36 * product
-}
+// "bidder 5, round 12": where the line of the first product begins.
+const LINES: usize = 17;
 
-// "Zero bits fill the last byte": whole bytes for so many products.
-fn card_length(products: usize) -> usize
-    requires { ⌜ products ≤ 8 ⌝ }
-    ensures { λ r. ⌜ r ≡ cardLength products ⌝ }
-{
-    (line_bit(products) + 7) >> 3
-}
+// "tranches 8, withdrawn 8, exit price 17, switching priority 3"
+const LINE: usize = 36;
 
 // ---- reading
 
@@ -65,8 +51,7 @@ fn lines_of(card: &[u8], products: usize) -> [Line; 8]
     let mut lines = [none; 8];
     let mut i: usize = 0;
     while i < products {
-        let at = line_bit(i);
-        lines[i] = line_at(card, at);
+        lines[i] = line_at(card, LINES + LINE * i);
         i += 1;
     }
     lines
@@ -94,25 +79,18 @@ pub fn read(card: &[u8], products: usize) -> CardRead
     if products > 8 {
         return refused(29);
     }
-    let used = line_bit(products);
-    let long = card_length(products);
+    // "Zero bits fill the last byte."
+    let used = LINES + LINE * products;
+    let long = (used + 7) / 8;
     if card.len() != long {
         return refused(4);
     }
-    let Field::Value(filling) = field(card, used, 8 * long - used) else {
-        return refused(4);
-    };
+    let filling = value(card, used, 8 * long - used);
     if filling != 0 {
         return refused(5);
     }
-    let Field::Value(bidder) = field(card, 0, 5) else {
-        return refused(4);
-    };
-    let Field::Value(round) = field(card, 5, 12) else {
-        return refused(4);
-    };
-    let bidder = bidder as u8;
-    let round = round as u16;
+    let bidder = value(card, 0, 5) as u8;
+    let round = value(card, 5, 12) as u16;
     let lines = lines_of(card, products);
     CardRead {
         card: Card::Bid { bidder, round },
@@ -138,41 +116,13 @@ fn put_lines(room: &mut [u8], lines: [Line; 8], products: usize)
 {
     let mut i: usize = 0;
     while i < products {
-        let at = line_bit(i);
         let line = lines[i];
-        put_line(room, at, line);
+        put_line(room, LINES + LINE * i, line);
         i += 1;
     }
 }
 
-fn clear(room: &mut [u8])
-    ensures { λ _. ⌜ now (room .exit) ≡ replicate (length (now (room .entry))) 0 ⌝ }
-{
-    let mut i: usize = 0;
-    while i < room.len() {
-        room[i] = 0;
-        i += 1;
-    }
-}
-
-// Two tests as one value.
-fn both(a: bool, b: bool) -> bool
-    ensures { λ r. ⌜ r ≡ (a && b) ⌝ }
-{
-    if a { b } else { false }
-}
-
-// A line past the count is all zero.
-fn line_writable(products: usize, product: usize, line: Line) -> bool
-    ensures { λ r. ⌜ r ≡ cond (ltb product products) (lineFits line) (lineZero line) ⌝ }
-{
-    if product < products {
-        line.fits()
-    } else {
-        line.is_zero()
-    }
-}
-
+// A line fits its bits; past the count it is all zero.
 fn lines_writable(products: usize, lines: [Line; 8]) -> bool
     ensures { λ r. ⌜ r ≡ allUpTo (lineWritable products lines) 8 ⌝ }
 {
@@ -180,8 +130,11 @@ fn lines_writable(products: usize, lines: [Line; 8]) -> bool
     let mut i: usize = 0;
     while i < 8 {
         let line = lines[i];
-        let one = line_writable(products, i, line);
-        all = both(all, one);
+        if i < products {
+            all = all & line.fits();
+        } else {
+            all = all & line.is_zero();
+        }
         i += 1;
     }
     all
@@ -198,21 +151,15 @@ pub fn write(room: &mut [u8], products: usize, bidder: u8, round: u16, lines: [L
     if products > 8 {
         return Answer::Refused(29);
     }
-    let long = card_length(products);
-    if room.len() != long {
+    let used = LINES + LINE * products;
+    if room.len() != (used + 7) / 8 {
         return Answer::Refused(4);
     }
-    if bidder > 31 {
-        return Answer::Refused(30);
-    }
-    if round > 4095 {
-        return Answer::Refused(30);
-    }
-    let fit = lines_writable(products, lines);
+    let fit = (bidder < 32) & ((round < 4096) & lines_writable(products, lines));
     if !fit {
         return Answer::Refused(30);
     }
-    clear(room);
+    state::clear(room);
     put_field(room, 0, 5, bidder as u32);
     put_field(room, 5, 12, round as u32);
     put_lines(room, lines, products);

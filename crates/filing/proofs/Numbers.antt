@@ -16,7 +16,7 @@ use Rattle.rules.specs.Calls.{bidNumber, cardNumber, withCard, afterCard}
 use Rattle.rules.specs.Layout.{loaded, stored}
 use Rattle.rules.specs.Bits.{setIn}
 use Rattle.storing.specs.Written.{withFiled, withSlot}
-use Rattle.filing.specs.Filing.{refusalOn, Files}
+use Rattle.filing.specs.Filing.{Files}
 
 -- a refused card has a number
 refused-by : (c : List ℕ) (n k : ℕ) (t u v : Bool)
@@ -37,26 +37,30 @@ refuses s c r e h = record {
   bytes = sym (ap (λ t. cond t (stored (afterCard c (loaded s))) s) (ne-eqb _ 0 (λ z. h (e ∙ z))));
 }
 
-module _ (s c : List ℕ) (r : CardRead) (o : loaded s .phase ≡ 1) (e : r ≡ readCard c (loaded s .terms .products)) where
-  -- refused: the card's own number
-  pub refused-number : (k n : ℕ) → r .card ≡ Refused k → n ≡ refusalOn (r .card) → Files s c n s
-  refused-number k n h f =
-      refuses s c n (f ∙ rw (← e, eq-eqb (loaded s .phase) 1 o, h)) (λ z. refused-some c _ k (sym (ap (λ r. r .card) e) ∙ h) (
-      sym (f ∙ ap refusalOn h) ∙ z))
+-- bids are open, and the card c is read to r
+pub record Reads (s c : List ℕ) (r : CardRead) : Type 0 where
+  pub bidding : loaded s .phase ≡ 1
+  pub read : r ≡ readCard c (loaded s .terms .products)
 
-  module _ (b t n : ℕ) (h : r .card ≡ Bid b t) (f : n ≡ bidNumber (loaded s) (Bid b t) (r .lines)) where
+module _ {s c : List ℕ} {r : CardRead} (x : Reads s c r) where
+  -- refused: the card's own number
+  pub refused-number : {k : ℕ} → r .card ≡ Refused k → Files s c k s
+  refused-number {k} h =
+      refuses s c k (rw (← x .read, eq-eqb (loaded s .phase) 1 (x .bidding), h)) (refused-some c _ k (sym (ap (λ r. r .card) (x .read)) ∙ h))
+
+  module _ {b t n : ℕ} (h : r .card ≡ Bid b t) (f : n ≡ bidNumber (loaded s) (Bid b t) (r .lines)) where
     is-number : n ≡ cardNumber c (loaded s)
-    is-number = f ∙ rw (← e, eq-eqb (loaded s .phase) 1 o, h)
+    is-number = f ∙ rw (← x .read, eq-eqb (loaded s .phase) 1 (x .bidding), h)
 
     -- a bid: what the auction says of it
     pub bid-refused : (n ≡ 0 → ⊥) → Files s c n s
     bid-refused = refuses s c n is-number
 
-    pub bid-filed : n ≡ 0 → (z : List ℕ) → z ≡ stored (withCard (loaded s) b (r .lines)) → Files s c 0 z
-    bid-filed d z g =
+    pub bid-filed : n ≡ 0 → {z : List ℕ} → z ≡ stored (withCard (loaded s) b (r .lines)) → Files s c 0 z
+    bid-filed d g =
         let w = sym (sym is-number ∙ d) in record {
           number = w;
-          bytes = g ∙ rw (← w, ← e, h);
+          bytes = g ∙ rw (← w, ← x .read, h);
         }
 
 -- the bidder's slot and bit written

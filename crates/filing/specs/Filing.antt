@@ -4,15 +4,8 @@ use mathlib.Core.Bool.{cond}
 use mathlib.Core.List.{List}
 use Prim.Native.Nat.{ℕ}
 use lib.Dec.{eqb}
-use Rattle.rules.specs.declared.Card.{Card}
-use Rattle.rules.specs.declared.Card.the-variants as card
 use Rattle.rules.specs.Calls.{cardNumber, afterCard}
 use Rattle.rules.specs.Layout.{loaded, stored}
-
--- of a card that was refused; 0 for a bid
-abbrev pub refusalOn : Card → ℕ
-refusalOn (card.Bid b r) = 0
-refusalOn (card.Refused n) = n
 
 -- the state s, the card c; z are the bytes after
 pub record Files (s c : List ℕ) (r : ℕ) (z : List ℕ) : Type 0 where

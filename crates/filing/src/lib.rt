@@ -6,9 +6,10 @@ ghost use Rattle.rules.specs.declared.Card.the-variants.{Bid};
 ghost use Rattle.rules.specs.Calls.{bidNumber};
 ghost use Rattle.rules.specs.Layout.{loaded};
 ghost use Rattle.book.specs.Lent.{Lent};
-ghost use Rattle.filing.specs.Filing.{refusalOn, Files};
+ghost use Rattle.filing.specs.Filing.{Files};
 use rules::Card;
 use rules::Line;
+use rules::OPEN;
 
 // 6, 7, and 8 to 13 of a bid that was read.
 fn bid_number(s: &[u8], bidder: u8, round: u16, lines: [Line; 8]) -> u8
@@ -24,19 +25,6 @@ fn bid_number(s: &[u8], bidder: u8, round: u16, lines: [Line; 8]) -> u8
     }
     let ticks = held::ticks(s);
     bids::judge(s, &ticks, b, lines)
-}
-
-// The number that a refused card was read to.
-fn refusal(card: Card) -> u8
-    ensures { λ r. ⌜ r ≡ refusalOn card ⌝ }
-{
-    match card {
-        Card::Bid {
-            bidder: _,
-            round: _,
-        } => 0,
-        Card::Refused(n) => n,
-    }
 }
 
 // "A bitmap marks who has filed": bit b is made 1.
@@ -55,23 +43,25 @@ pub fn file_card(s: &mut [u8], card: &[u8]) -> u8
     requires { ⌜ Lent (now s) ⌝ }
     ensures { λ r. ⌜ Files (now (s .entry)) (now (card .entry)) r (now (s .exit)) ⌝ }
 {
-    if book::phase(s) != 1 {
+    if book::phase(s) != OPEN {
         return 3;
     }
     let got = card::read(card, book::products(s));
     let lines = got.lines;
     let answer = got.card;
-    let Card::Bid { bidder, round } = answer else {
-        return refusal(answer);
-    };
-    let n = bid_number(s, bidder, round, lines);
-    if n != 0 {
-        return n;
+    match answer {
+        Card::Refused(n) => n,
+        Card::Bid { bidder, round } => {
+            let n = bid_number(s, bidder, round, lines);
+            if n != 0 {
+                return n;
+            }
+            let b = bidder as usize;
+            let marks = marked(book::filed(s), b);
+            let _ = storing::as_stored(s);
+            storing::slot(s, b, lines);
+            storing::filed(s, marks);
+            0
+        }
     }
-    let b = bidder as usize;
-    let marks = marked(book::filed(s), b);
-    let _ = storing::as_stored(s);
-    storing::slot(s, b, lines);
-    storing::filed(s, marks);
-    0
 }

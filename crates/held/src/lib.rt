@@ -6,7 +6,7 @@ ghost use Prim.Native.Nat.{_≤_, _<_};
 ghost use lib.ListN.{length};
 ghost use lib.Dec.{eqb};
 ghost use Rattle.rules.specs.Settings.{setup, targetOf};
-ghost use Rattle.rules.specs.Held.{held, standing, standingOf, ticked, aboveZero, excess};
+ghost use Rattle.rules.specs.Held.{held, standing, below, above, standingOf, ticked, aboveZero, excess};
 ghost use Rattle.rules.specs.Round.{stops};
 ghost use Rattle.rules.specs.Layout.{loaded};
 ghost use Rattle.book.specs.Lent.{Lent};
@@ -49,6 +49,18 @@ pub fn standing_of(held: u32, target: u16) -> i32
     ensures { λ r. ⌜ r ≡ standing held target ⌝ }
 {
     held as i32 - target as i32
+}
+
+pub fn is_below(standing: i32) -> bool
+    ensures { λ r. ⌜ r ≡ below standing ⌝ }
+{
+    standing < 0
+}
+
+pub fn is_above(standing: i32) -> bool
+    ensures { λ r. ⌜ r ≡ above standing ⌝ }
+{
+    standing > 0
 }
 
 pub fn standing(s: &[u8], p: usize) -> i32

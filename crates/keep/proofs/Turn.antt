@@ -11,15 +11,17 @@ use Rattle.rules.specs.declared.Place.{Place}
 use Rattle.rules.specs.Count.{firstUpTo, never}
 use Rattle.rules.specs.Held.{standing, below}
 use Rattle.rules.specs.Accept.{column, every, heldOf, leftOf}
-use Rattle.rules.specs.Keep.{short, keepStep, canKeep, kept, whileShort, keepLoop, keptAll}
+use Rattle.rules.specs.Keep.{short, keepStep, canKeep, kept, keepLoop, keptAll}
 use Rattle.rules.specs.Round.{drawn}
 use Rattle.rules.proofs.Sums.{best-found}
-use Rattle.search.specs.declared.Next.{Next}
-use Rattle.search.specs.Room.{Drawn, isOne, targetOn}
-use Rattle.search.specs.Search.{nextUpTo}
-use Rattle.search.specs.Step.{Booked, shortBy, Numbered}
-use Rattle.search.proofs.Laws.{first-ext}
-use Rattle.search.proofs.Searches.{next-nothing}
+use Rattle.draw.specs.Drawn.{Drawn}
+use Rattle.held.specs.Ticks.{isOne}
+use Rattle.table.specs.declared.Next.{Next}
+use Rattle.table.specs.Room.{targetOn}
+use Rattle.table.proofs.Laws.{first-ext}
+use Rattle.keep.specs.Search.{nextUpTo}
+use Rattle.keep.specs.Step.{Booked, shortBy, Numbered}
+use Rattle.keep.proofs.Searches.{next-nothing}
 
 -- ---- one turn of the definition
 
@@ -45,23 +47,6 @@ module _ (m n : ℕ) (target : ℕ → ℕ) (tick : ℕ → Bool) (draw : ℕ �
   unfolding keepLoop
   loop-idle zero c p e k = refl
   loop-idle (suc f) c p e k = rw (e, k)
-
--- the same targets give the same
-module _ (m n : ℕ) (f g : ℕ → ℕ) (tick : ℕ → Bool) (draw : ℕ → ℕ) (same : (p : ℕ) → p < m → f p ≡ g p) where
-  ext-by : (k : ℕ) (ps : List Place) (c : ℕ) (q : Pick)
-      → ((qs : List Place) (d : ℕ) → keepLoop m n f tick draw k qs d ≡ keepLoop m n g tick draw k qs d)
-      → whileShort q (λ p. cond (canKeep n draw ps p) (keepLoop m n f tick draw k (keepStep m n draw ps p) (c + 1)) (kept ps c)) (kept ps c)
-      ≡ whileShort q (λ p. cond (canKeep n draw ps p) (keepLoop m n g tick draw k (keepStep m n draw ps p) (c + 1)) (kept ps c)) (kept ps c)
-  ext-by k ps c (At p) h = rw (h (keepStep m n draw ps p) (c + 1))
-  ext-by k ps c Nobody h = refl
-
-  pub loop-ext : (k : ℕ) (ps : List Place) (c : ℕ) → keepLoop m n f tick draw k ps c ≡ keepLoop m n g tick draw k ps c
-  unfolding keepLoop
-  loop-ext zero ps c = refl
-  loop-ext (suc k) ps c =
-      rw (first-ext (short n f tick ps) (short n g tick ps) m
-      (λ p l. ap (λ t. tick p && below (standing (column heldOf ps p n) t)) (same p l)))
-      (ext-by k ps c (firstUpTo (short n g tick ps) m) (loop-ext k))
 
 -- ---- one turn of the code
 
@@ -117,7 +102,7 @@ module _ (w : Loop) where
   pub first-same : (q : Pick) → q ≡ firstUpTo (shortBy (w .held) (w .targets) (w .ticks)) (w .m) → firstShort ≡ q
   first-same q e =
       sym (e ∙ first-ext (shortBy (w .held) (w .targets) (w .ticks)) (short (w .n) aim (isOne (w .ticks)) (w .ps)) (w .m)
-      (λ p l. ap (λ h. isOne (w .ticks) p && below (standing h (aim p))) (w .turn .book .holds p (omega (arith, w .few)))))
+      (λ p l. ap (λ h. isOne (w .ticks) p && below (standing h (aim p))) (w .turn .book .holds .each p (omega (arith, w .few)))))
 
   pub turn-none : firstShort ≡ Nobody → kept (w .ps) (w .count) ≡ whole
   turn-none e =

@@ -5,9 +5,9 @@ use Prim.Native.Nat.{ℕ, _+_, _-_, _≤_, _<_}
 use lib.ListN.{getD, set, length}
 use Rattle.rules.specs.declared.Place.{Place}
 use Rattle.rules.specs.Accept.{placeAt, changed, leavingAt, leftOf, riseOf}
-use Rattle.search.specs.declared.Loss.{Loss}
-use Rattle.search.specs.Room.{Fits}
-use Rattle.search.specs.Step.{Each, Timed, turnOf, Ranked, keptOne, cancelSome}
+use Rattle.table.specs.Room.{Fits}
+use Rattle.keep.specs.declared.Loss.{Loss}
+use Rattle.keep.specs.Step.{Each, Timed, turnOf, Ranked, keptOne, cancelSome}
 
 -- a tranche is left to keep at place k of product p
 pub record Keeps (ps : List Place) (held turns : List ℕ) (k p : ℕ) : Type 0 where

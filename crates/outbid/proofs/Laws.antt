@@ -1,9 +1,9 @@
 -- The ways through steps 3 and 4, against the definition. Assumes nothing.
-use borrow.Author.Tests.{eqb-true, eqb-false, ltb-true, lt-ltb, le-ltb}
+use borrow.Author.Tests.{eqb-true, eqb-false, eq-eqb, ltb-true, ltb-false, lt-ltb, le-ltb}
 use mathlib.Core.Path.{_≡_, refl, sym, _∙_, ap, ap₂, subst}
 use mathlib.Core.Bool.{Bool, true, false, _&&_, not, cond}
 use mathlib.Core.List.{List}
-use Prim.Native.Nat.{ℕ, zero, suc, _+_, _*_, _%_, _≤_, _<_}
+use Prim.Native.Nat.{ℕ, zero, suc, _+_, _-_, _*_, _%_, _≤_, _<_}
 use native.Mathlib.Omega.{arith}
 use native.Mathlib.Nat.{add-zero}
 use lib.ListN.{set, length}
@@ -18,13 +18,14 @@ use Rattle.rules.specs.Units.{tranches}
 use Rattle.rules.specs.Held.{deniedIn, retainedIn, exitIn}
 use Rattle.rules.specs.Accept.{nowhere, placeAt, changed, column, rowOf, heldOf, keptOf, riseOf, deem, outbidSwitch, outbidWithdrawal}
 use Rattle.rules.specs.Outbid.{deemIf, deemedUpTo, outbid, freed, deniedOne, retainedOne, outbidRetained, outbidBy}
-use Rattle.rules.proofs.Sums.{sum-ext, sum-one, sum-ge, best-found, first-stays, first-here, first-not}
+use Rattle.rules.proofs.Sums.{sum-ext, sum-one, best-found, best-none}
 use Rattle.rules.proofs.Places.{each, column-at, column-beside}
-use Rattle.search.specs.declared.Best.{Best}
-use Rattle.search.specs.Search.{noted, higherOf}
-use Rattle.search.specs.Room.{Fits, Room}
-use Rattle.search.proofs.Laws.{higher-next, noted-who, room-set}
-use Rattle.outbid.specs.Loss.{deniedOf, freeAt, Free, Known, Lost}
+use Rattle.table.specs.declared.Next.{Next}
+use Rattle.table.specs.Next.{nobody, turnBy}
+use Rattle.table.specs.Room.{Fits, Room}
+use Rattle.table.proofs.Turns.{Apart, soonest-ext, next-nobody, next-first, next-second}
+use Rattle.table.proofs.Laws.{room-set}
+use Rattle.outbid.specs.Loss.{deniedOf, turnOf, turnAt, Small, Soonest, Known, freeAt, Free, Lost}
 
 -- ---- step 3
 
@@ -40,94 +41,118 @@ pub deemed-next : (tick : ℕ → Bool) (ps work : List Place) (k : ℕ) → wor
 unfolding deemedUpTo
 deemed-next tick ps work k e = ap (λ w. changed (deemIf (tick (k % 8))) w k) e
 
--- ---- searches
+-- ---- whose turn it is
 
-module _ (ps : List Place) (draw : ℕ → ℕ) (p : ℕ) where
-  abbrev pub retains : ℕ → Bool
-  retains i = ltb 0 (retainedIn (placeAt ps (draw i * 8 + p) .holds))
+-- the same order finds the same
+module _ (has : ℕ → Bool) (s t : ℕ → ℕ → Bool) where
+  better-by : (n : ℕ) (q : Pick) → ((j : ℕ) → q ≡ At j → s n j ≡ t n j) → better has s q n ≡ better has t q n
+  better-by n Nobody h = refl
+  better-by n (At j) h = ap (λ y. pickIf (has n && y) n (At j)) (h j refl)
 
-  abbrev pub exits : ℕ → ℕ
-  exits i = exitIn (placeAt ps (draw i * 8 + p) .holds)
+  best-same : (n : ℕ) → ((i j : ℕ) → i < n → j < n → s i j ≡ t i j) → bestUpTo has s n ≡ bestUpTo has t n
+  best-same zero h = refl
+  best-same (suc n) h =
+      ap (λ q. better has s q n) (best-same n (λ i j l k. h i j (omega arith) (omega arith)))
+      ∙ better-by n (bestUpTo has t n) (λ j e. h n j (omega arith) (omega (arith, best-found has t n j e .0)))
 
-  pub retained-next : (i b r x : ℕ) (best next : Best) → b ≡ draw i → r ≡ retainedIn (placeAt ps (b * 8 + p) .holds)
-      → x ≡ exitIn (placeAt ps (b * 8 + p) .holds) → best ≡ noted exits (retainedOne i draw ps p)
-      → next ≡ higherOf best i (ltb 0 r) x → next ≡ noted exits (retainedOne (suc i) draw ps p)
-  retained-next i b r x best next d er ex e f =
-      f ∙ ap₂ (λ r x. higherOf best i (ltb 0 r) x) (er ∙ ap (λ b. retainedIn (placeAt ps (b * 8 + p) .holds)) d)
-      (ex ∙ ap (λ b. exitIn (placeAt ps (b * 8 + p) .holds)) d)
-      ∙ ap (λ q. higherOf q i (retains i) (exits i)) e ∙ sym (higher-next retains exits (retainedOne i draw ps p) i)
+-- the highest exit price has the lowest turn
+turned : (x y : ℕ) → x ≤ 4294967295 → y ≤ 4294967295 → (t : Bool) → ltb y x ≡ t → ltb (4294967296 - x) (4294967296 - y) ≡ ltb y x
+turned x y l k true e = let h = ltb-true y x e in lt-ltb (4294967296 - x) (4294967296 - y) (omega arith) ∙ sym e
+turned x y l k false e = let h = ltb-false y x e in le-ltb (4294967296 - x) (4294967296 - y) (omega arith) ∙ sym e
 
-  pub retained-who : (n : ℕ) (best : Best) → best ≡ noted exits (retainedOne n draw ps p) → best .who ≡ retainedOne n draw ps p
-  retained-who n best e = ap (λ b. b .who) e ∙ noted-who retains exits (retainedOne n draw ps p)
+-- one bidder more is looked at
+pub small-next : (draw : ℕ → ℕ) (ps : List Place) (p i : ℕ) → Small i draw ps p → exitIn (placeAt ps (draw i * 8 + p) .holds) ≤ 4294967295
+    → Small (i + 1) draw ps p
+small-next draw ps p i h x j l = at (eqb j i) refl
+  where
+    at : (t : Bool) → eqb j i ≡ t → exitIn (placeAt ps (draw j * 8 + p) .holds) ≤ 4294967295
+    at true e = rw (eqb-true j i e) x
+    at false e = let d = eqb-false j i e in h j (omega (arith, d))
 
-  pub retained-fits : (n i : ℕ) → retainedOne n draw ps p ≡ At i → (i < n) × (0 < retainedIn (placeAt ps (draw i * 8 + p) .holds))
-  retained-fits n i e = let f = best-found retains (λ i j. ltb (exits j) (exits i)) n i e in (f .0, ltb-true _ _ (f .1))
-
+module _ (n : ℕ) (draw : ℕ → ℕ) (ps : List Place) (p : ℕ) where
   abbrev denies : ℕ → Bool
   denies i = ltb 0 (deniedIn (placeAt ps (draw i * 8 + p) .holds))
 
-  denies-by : (i b d : ℕ) → b ≡ draw i → d ≡ deniedIn (placeAt ps (b * 8 + p) .holds) → denies i ≡ ltb 0 d
-  denies-by i b d eb ed = ap (ltb 0) (sym (ed ∙ ap (λ b. deniedIn (placeAt ps (b * 8 + p) .holds)) eb))
+  abbrev retains : ℕ → Bool
+  retains i = ltb 0 (retainedIn (placeAt ps (draw i * 8 + p) .holds))
 
-  pub denied-fits : (n i : ℕ) → deniedOne n draw ps p ≡ At i → (i < n) × (0 < deniedIn (placeAt ps (draw i * 8 + p) .holds))
-  denied-fits n i e = let f = best-found denies never n i e in (f .0, ltb-true _ _ (f .1))
+  abbrev exits : ℕ → ℕ
+  exits i = exitIn (placeAt ps (draw i * 8 + p) .holds)
 
-  -- bidder b, the i-th in the draw, has d denied switches: some, or none
-  module _ (i b d : ℕ) (e : deniedOne i draw ps p ≡ Nobody) (eb : b ≡ draw i)
-      (ed : d ≡ deniedIn (placeAt ps (b * 8 + p) .holds)) where
-    pub denied-here : (n : ℕ) → i < n → 0 < d → deniedOne n draw ps p ≡ At i
-    denied-here n l h =
-        first-stays denies (suc i) i n (first-here denies i e (denies-by i b d eb ed ∙ lt-ltb 0 d h)) (omega arith)
+  abbrev late : ℕ → ℕ
+  late i = 4294967296 - exits i
 
-    pub denied-not : d ≤ 0 → deniedOne (suc i) draw ps p ≡ Nobody
-    denied-not h = first-not denies i e (denies-by i b d eb ed ∙ le-ltb 0 d h)
+  -- a denied switch is outbid
+  pub record Switch (j : ℕ) : Type 0 where
+    pub first : deniedOne n draw ps p ≡ At j
+    pub drawn : j < n
+    pub some : 0 < deniedIn (placeAt ps (draw j * 8 + p) .holds)
 
-  -- of a product with no denied switch no bidder has one
-  module _ (n : ℕ) (range : (i : ℕ) → i < n → draw i < n) (e : column deniedOf ps p n ≡ 0) where
-    none-upto : (i : ℕ) → i ≤ n → deniedOne i draw ps p ≡ Nobody
-    none-upto zero l = refl
-    none-upto (suc i) l =
-        denied-not i (draw i) _ (none-upto i (omega arith)) refl refl
-        (omega (arith, sum-ge (λ b. deniedOf (placeAt ps (b * 8 + p))) n (draw i) (range i (omega arith))))
+  -- a retained withdrawal is outbid
+  pub record Withdrawal (j : ℕ) : Type 0 where
+    pub none : deniedOne n draw ps p ≡ Nobody
+    pub first : retainedOne n draw ps p ≡ At j
+    pub drawn : j < n
+    pub some : 0 < retainedIn (placeAt ps (draw j * 8 + p) .holds)
+    pub nothing : deniedIn (placeAt ps (draw j * 8 + p) .holds) ≤ 0
 
-    pub none-denied : deniedOne n draw ps p ≡ Nobody
-    none-denied = none-upto n (omega arith)
+  module _ (s : Next) (S : Soonest n draw ps p s) where
+    apart : (i : ℕ) → i < n → Apart 1 0 (late i)
+    apart i l = let x = S .small i l in record { below = omega arith; above = omega arith; some = omega arith }
 
--- ---- who is next
+    by-exit : bestUpTo retains (λ i j. ltb (late i) (late j)) n ≡ retainedOne n draw ps p
+    by-exit =
+        best-same retains _ _ n (λ i j l k. turned (exits i) (exits j) (S .small i l) (S .small j k) (ltb (exits j) (exits i)) refl)
 
--- the same tests find the same
-module _ (f g : ℕ → Bool) (s t : ℕ → ℕ → Bool) (h : (i : ℕ) → f i ≡ g i) (k : (i j : ℕ) → s i j ≡ t i j) where
-  better-by : (n : ℕ) (q : Pick) → better f s q n ≡ better g t q n
-  better-by n Nobody = ap (λ x. pickIf x n Nobody) (h n)
-  better-by n (At j) = ap₂ (λ x y. pickIf (x && y) n (At j)) (h n) (k n j)
+    pub soonest-none : s .turn ≡ 4294967297 → (deniedOne n draw ps p ≡ Nobody) × (retainedOne n draw ps p ≡ Nobody)
+    soonest-none z =
+        let w = next-nobody denies retains (λ i. 0) late 1 n apart s (S .is) z in
+        (w .0, sym by-exit ∙ w .1)
 
-  best-ext : (n : ℕ) → bestUpTo f s n ≡ bestUpTo g t n
-  best-ext zero = refl
-  best-ext (suc n) = ap (λ q. better f s q n) (best-ext n) ∙ better-by n (bestUpTo g t n)
+    pub soonest-switch : s .turn ≡ 0 → Switch (s .at)
+    soonest-switch z =
+        let e = next-first denies retains (λ i. 0) late 1 n apart s (S .is) (omega arith) (omega arith) in
+        let f = best-found denies never n (s .at) e in
+        record { first = e; drawn = f .0; some = ltb-true _ _ (f .1) }
 
-module _ (n : ℕ) (draw : ℕ → ℕ) (ps : List Place) (p : ℕ) where
-  pub known-none : Known n draw ps p Nobody
-  known-none j e = let z : _≡_ {A = ℕ} 0 1 = cc in absurd (let x : ⊥ = omega arith in x)
+    module _ (d : s .turn ≡ 4294967297 → ⊥) where
+      pub soonest-withdrawal : (s .turn ≡ 0 → ⊥) → Withdrawal (s .at)
+      soonest-withdrawal z =
+          let w = next-second denies retains (λ i. 0) late 1 n apart s (S .is) (omega (arith, z)) d in
+          let f = best-found retains (λ i j. ltb (late i) (late j)) n (s .at) (w .1) in
+          record {
+            none = w .0;
+            first = sym by-exit ∙ w .1;
+            drawn = f .0;
+            some = ltb-true _ _ (f .1);
+            nothing = ltb-false _ _ (best-none denies never n (w .0) (s .at) (f .0));
+          }
 
-  pub known-if : (q : Pick) (t : Bool) → (t ≡ true → Known n draw ps p q) → Known n draw ps p (cond t q Nobody)
-  known-if q true h = h refl
-  known-if q false h = known-none
+      drawn-by : (t : Bool) → eqb (s .turn) 0 ≡ t → s .at < n
+      drawn-by true e = soonest-switch (eqb-true (s .turn) 0 e) .drawn
+      drawn-by false e = soonest-withdrawal (eqb-false (s .turn) 0 e) .drawn
 
-  -- a bidder with a withdrawal left at the same exit price is next again
-  retained-again : (k : ℕ) (x : Place) → k < length ps → x ≡ outbidWithdrawal (placeAt ps k)
-      → ltb 0 (retainedIn (x .holds)) ≡ true → retainedOne n draw (set ps k x) p ≡ retainedOne n draw ps p
-  retained-again k x l g some =
-      let left = ltb-true 0 (retainedIn (x .holds)) some in
-      let r = ap (λ y. retainedIn (y .holds)) g in
-      let had = retainedIn (placeAt ps k .holds) in
+      pub soonest-drawn : s .at < n
+      soonest-drawn = drawn-by (eqb (s .turn) 0) refl
+
+  pub known-none : Known n draw ps p nobody
+  known-none l = absurd (let x : ⊥ = omega arith in x)
+
+  pub known-if : (s : Next) (t : Bool) → (t ≡ true → Known n draw ps p s) → Known n draw ps p (cond t s nobody)
+  known-if s true h = h refl
+  known-if s false h = known-none
+
+  -- with the turn of a place as it was, the next is the same
+  soonest-again : (k : ℕ) (x : Place) → k < length ps → turnOf (x .holds) ≡ turnOf (placeAt ps k .holds)
+      → exitIn (x .holds) ≤ exitIn (placeAt ps k .holds) → (s : Next) → Soonest n draw ps p s → Soonest n draw (set ps k x) p s
+  soonest-again k x l t e s S =
       let same = each (λ _. x) ps k l
-      (λ a b. (ltb 0 (retainedIn (b .holds)) ≡ ltb 0 (retainedIn (a .holds))) × (exitIn (b .holds) ≡ exitIn (a .holds)))
-      (λ _. (refl, refl)) (
-        some ∙ sym (lt-ltb 0 had (omega arith)),
-        ap (λ y. exitIn (y .holds)) g ∙ ap (λ t. cond t (exitIn (placeAt ps k .holds)) 0) (lt-ltb 1 had (omega arith)),
-      ) in
-      best-ext _ _ _ _ (λ i. same (draw i * 8 + p) .0)
-      (λ i j. ap₂ ltb (same (draw j * 8 + p) .1) (same (draw i * 8 + p) .1)) n
+      (λ a b. (turnOf (b .holds) ≡ turnOf (a .holds)) × (exitIn (b .holds) ≤ exitIn (a .holds)))
+      (λ a. (refl, omega arith)) (t, e) in
+      record {
+        is = S .is ∙ sym (soonest-ext _ _ n (λ i _. same (draw i * 8 + p) .0));
+        small = λ i l. omega (arith, same (draw i * 8 + p) .1, S .small i l);
+      }
 
 -- ---- what a bidder has denied, with the place of bidder b on product p stored anew
 
@@ -171,14 +196,14 @@ unpaid fs b = ap (λ x. set fs b (tranches x)) (add-zero (freeAt fs b)) ∙ set-
 
 -- ---- one tranche outbid
 
-module _ (n : ℕ) (draw : ℕ → ℕ) (ps : List Place) (R : Room ps) (p : ℕ) where
-  pub lost-none : (l : Place) → l ≡ placeAt ps 0 → deniedOne n draw ps p ≡ Nobody → retainedOne n draw ps p ≡ Nobody
-      → Lost n draw ps p (record { at = 0; place = l; owner = 0; freed = 0; more = 0; next = Nobody })
-  lost-none l g e f =
+module _ (n : ℕ) (draw : ℕ → ℕ) (ps : List Place) (R : Room ps) (p : ℕ) (s : Next) (S : Soonest n draw ps p s) where
+  pub lost-none : (l : Place) → l ≡ placeAt ps 0 → s .turn ≡ 4294967297
+      → Lost n draw ps p (record { at = 0; place = l; owner = 0; freed = 0; more = 0; next = s })
+  lost-none l g z =
+      let w = soonest-none n draw ps p s S z in
       let same = ap (set ps 0) g ∙ set-getD ps 0 nowhere in
       let h = ap (λ qs. column heldOf qs p n) same in
       let k = ap (λ qs. column keptOf qs p n) same in
-      let d = ap (λ qs. column deniedOf qs p n) same in
       record {
         at = omega arith;
         owner = omega arith;
@@ -186,17 +211,16 @@ module _ (n : ℕ) (draw : ℕ → ℕ) (ps : List Place) (R : Room ps) (p : ℕ
         more = omega arith;
         makes = λ fs c.
             ap₂ (λ ps fs. outbid ps fs (c + 0)) same (unpaid fs 0) ∙ ap (outbid ps fs) (add-zero c)
-            ∙ sym (ap (λ q. outbidBy n draw q (outbid ps fs c) p) e ∙ ap (λ q. outbidRetained draw q (outbid ps fs c) p) f);
+            ∙ sym (ap (λ q. outbidBy n draw q (outbid ps fs c) p) (w .0) ∙ ap (λ q. outbidRetained draw q (outbid ps fs c) p) (w .1));
         room = subst Room (sym same) R;
         free = λ fs l F. subst (λ ps. Free (set fs 0 (tranches (freeAt fs 0 + 0))) ps) (sym same) (subst (λ fs. Free fs ps) (sym (unpaid fs 0)) F);
         held = omega arith;
         kept = omega arith;
-        denied = omega arith;
-        known = known-none n draw (set ps 0 l) p;
+        known = λ l. absurd (let x : ⊥ = omega arith in x);
         beside = λ f q _ _. ap (λ qs. column f qs q n) same;
       }
 
-  module _ (j b : ℕ) (x : Place) (d : b ≡ draw j) (ln : n ≤ 32) (lb : b < n) (lp : p < 8) where
+  module _ (b : ℕ) (x : Place) (d : b ≡ draw (s .at)) (ln : n ≤ 32) (lb : b < n) (lp : p < 8) where
     abbrev k : ℕ
     k = b * 8 + p
 
@@ -211,43 +235,94 @@ module _ (n : ℕ) (draw : ℕ → ℕ) (ps : List Place) (R : Room ps) (p : ℕ
     column-same : (f : Place → ℕ) (q : ℕ) → q < 8 → (q ≡ p → ⊥) → column f (set ps k x) q n ≡ column f ps q n
     column-same f q lq u = column-beside (λ _. x) ps b p in-place f q n lp lq u
 
-    pub lost-retained : deniedOne n draw ps p ≡ Nobody → retainedOne n draw ps p ≡ At j → 0 < retainedIn (placeAt ps k .holds)
-        → x ≡ outbidWithdrawal (placeAt ps k)
-        → (next : Pick) → next ≡ cond (ltb 0 (retainedIn (x .holds))) (At j) Nobody
-        → Lost n draw ps p (record { at = k; place = x; owner = b; freed = 0; more = 1; next = next })
-    lost-retained e f some g next m =
-        let F = R .each k in
-        let gone : Fits (outbidWithdrawal (placeAt ps k)) =
-        record { outs = omega (arith, F .outs); switches = F .switches; rises = F .rises } in
-        let same = ap deniedOf g in
-        let h = ap heldOf g in
-        let i = ap keptOf g in
-        record {
-          at = omega arith;
-          owner = omega arith;
-          freed = omega arith;
-          more = omega arith;
-          makes = λ fs c.
-              ap₂ (λ ps fs. outbid ps fs (c + 1)) (ap (set ps k) g ∙ ap (λ b. changed outbidWithdrawal ps (b * 8 + p)) d) (unpaid fs b)
-              ∙ sym (ap (λ q. outbidBy n draw q (outbid ps fs c) p) e ∙ ap (λ q. outbidRetained draw q (outbid ps fs c) p) f);
-          room = room-set ps R k x (omega arith) (subst Fits (sym g) gone);
-          free = λ fs l E. free-set ps R b p (omega arith) lp x 0 fs l E (omega arith);
-          held = column-less heldOf 1 (omega arith);
-          kept = column-less keptOf 1 (omega arith);
-          denied = column-less deniedOf 0 (omega arith);
-          known = subst (Known n draw (set ps k x) p) (sym m) (known-if n draw (set ps k x) p (At j) _ (λ t i u. retained-again n draw ps p k x in-place g t ∙ f ∙ u));
-          beside = column-same;
-        }
+    -- who is known to be next, where some of the same kind are left
+    module _ (t : Bool) (next : Next) (m : next ≡ cond t s nobody) where
+      known-again : (t ≡ true → turnOf (x .holds) ≡ turnOf (placeAt ps k .holds)) → exitIn (x .holds) ≤ exitIn (placeAt ps k .holds)
+          → Known n draw (set ps k x) p next
+      known-again h e =
+          subst (Known n draw (set ps k x) p) (sym m)
+          (known-if n draw (set ps k x) p s t (λ i _. soonest-again n draw ps p k x in-place (h i) e s S))
 
-    pub lost-switch : deniedOne n draw ps p ≡ At j → 0 < deniedOf (placeAt ps k) → x ≡ outbidSwitch (placeAt ps k)
-        → Lost n draw ps p (record { at = k; place = x; owner = b; freed = 1; more = 1; next = Nobody })
-    lost-switch e some g =
+    -- the place is that of the bidder found
+    at-drawn : (P : Place → Type 0) → P (placeAt ps (draw (s .at) * 8 + p)) → P (placeAt ps k)
+    at-drawn P h = subst (λ b. P (placeAt ps (b * 8 + p))) (sym d) h
+
+    pub some-denied : s .turn ≡ 0 → 0 < deniedOf (placeAt ps k)
+    some-denied z = at-drawn (λ l. 0 < deniedOf l) (soonest-switch n draw ps p s S z .some)
+
+    module _ (u : s .turn ≡ 4294967297 → ⊥) (z : s .turn ≡ 0 → ⊥) where
+      pub some-retained : 0 < retainedIn (placeAt ps k .holds)
+      some-retained = at-drawn (λ l. 0 < retainedIn (l .holds)) (soonest-withdrawal n draw ps p s S u z .some)
+
+      none-denied : deniedIn (placeAt ps k .holds) ≤ 0
+      none-denied = at-drawn (λ l. deniedIn (l .holds) ≤ 0) (soonest-withdrawal n draw ps p s S u z .nothing)
+
+      exit-left : (r e : ℕ) (t : Bool) → cond t e 0 ≤ e
+      exit-left r e true = omega arith
+      exit-left r e false = omega arith
+
+      -- its turn, where one more withdrawal is left
+      late-again : x ≡ outbidWithdrawal (placeAt ps k) → ltb 0 (retainedIn (x .holds)) ≡ true
+          → turnOf (x .holds) ≡ turnOf (placeAt ps k .holds)
+      late-again g t =
+          let had = retainedIn (placeAt ps k .holds) in
+          let left = ltb-true 0 (retainedIn (x .holds)) t in
+          let r = ap (λ y. retainedIn (y .holds)) g in
+          let none = none-denied in
+          let i = ap (λ y. deniedOf y) g in
+          rw (
+            le-ltb 0 (deniedIn (x .holds)) (omega arith),
+            le-ltb 0 (deniedIn (placeAt ps k .holds)) none,
+            t,
+            lt-ltb 0 had (omega arith),
+          )
+          (ap (λ e. 4294967296 - e)
+          (ap (λ y. exitIn (y .holds)) g ∙ ap (λ t. cond t (exitIn (placeAt ps k .holds)) 0) (lt-ltb 1 had (omega arith))))
+
+      pub lost-withdrawal : x ≡ outbidWithdrawal (placeAt ps k)
+          → (next : Next) → next ≡ cond (ltb 0 (retainedIn (x .holds))) s nobody
+          → Lost n draw ps p (record { at = k; place = x; owner = b; freed = 0; more = 1; next = next })
+      lost-withdrawal g next m =
+          let W = soonest-withdrawal n draw ps p s S u z in
+          let F = R .each k in
+          let some = some-retained in
+          let gone : Fits (outbidWithdrawal (placeAt ps k)) =
+          record { outs = omega (arith, F .outs); switches = F .switches; rises = F .rises } in
+          let same = ap deniedOf g in
+          let h = ap heldOf g in
+          let i = ap keptOf g in
+          let e = exit-left 0 (exitIn (placeAt ps k .holds)) (ltb 1 (retainedIn (placeAt ps k .holds))) in
+          let f = ap (λ y. exitIn (y .holds)) g in
+          record {
+            at = omega arith;
+            owner = omega arith;
+            freed = omega arith;
+            more = omega arith;
+            makes = λ fs c.
+                ap₂ (λ ps fs. outbid ps fs (c + 1)) (ap (set ps k) g ∙ ap (λ b. changed outbidWithdrawal ps (b * 8 + p)) d) (unpaid fs b)
+                ∙ sym (ap (λ q. outbidBy n draw q (outbid ps fs c) p) (W .none)
+                ∙ ap (λ q. outbidRetained draw q (outbid ps fs c) p) (W .first));
+            room = room-set ps R k x (omega arith) (subst Fits (sym g) gone);
+            free = λ fs l E. free-set ps R b p (omega arith) lp x 0 fs l E (omega arith);
+            held = column-less heldOf 1 (omega arith);
+            kept = column-less keptOf 1 (omega arith);
+            known = known-again (ltb 0 (retainedIn (x .holds))) next m (late-again g) (omega arith);
+            beside = column-same;
+          }
+
+    pub lost-switch : s .turn ≡ 0 → x ≡ outbidSwitch (placeAt ps k)
+        → (next : Next) → next ≡ cond (ltb 0 (deniedIn (x .holds))) s nobody
+        → Lost n draw ps p (record { at = k; place = x; owner = b; freed = 1; more = 1; next = next })
+    lost-switch z g next m =
+        let W = soonest-switch n draw ps p s S z in
         let F = R .each k in
+        let some = some-denied z in
         let gone : Fits (outbidSwitch (placeAt ps k)) =
         record { outs = F .outs; switches = omega (arith, F .switches); rises = F .rises } in
         let less = ap deniedOf g in
         let h = ap heldOf g in
         let i = ap keptOf g in
+        let e = ap (λ y. exitIn (y .holds)) g in
         record {
           at = omega arith;
           owner = omega arith;
@@ -255,12 +330,12 @@ module _ (n : ℕ) (draw : ℕ → ℕ) (ps : List Place) (R : Room ps) (p : ℕ
           more = omega arith;
           makes = λ fs c.
               ap₂ (λ ps fs. outbid ps fs (c + 1)) (ap (set ps k) g ∙ ap (λ b. changed outbidSwitch ps (b * 8 + p)) d) (ap (freed fs) d)
-              ∙ sym (ap (λ q. outbidBy n draw q (outbid ps fs c) p) e);
+              ∙ sym (ap (λ q. outbidBy n draw q (outbid ps fs c) p) (W .first));
           room = room-set ps R k x (omega arith) (subst Fits (sym g) gone);
           free = λ fs l E. free-set ps R b p (omega arith) lp x 1 fs l E (omega arith);
           held = column-less heldOf 1 (omega arith);
           kept = column-less keptOf 1 (omega arith);
-          denied = column-less deniedOf 1 (omega arith);
-          known = known-none n draw (set ps k x) p;
+          known = known-again (ltb 0 (deniedIn (x .holds))) next m
+              (λ t. rw (t, lt-ltb 0 (deniedIn (placeAt ps k .holds)) some)) (omega arith);
           beside = column-same;
         }

@@ -1,23 +1,27 @@
 // "Calculating", steps 3 and 4, on products that didn't tick.
 ghost use mathlib.Core.Path.{_≡_};
 ghost use mathlib.Core.Bool.{_&&_, not, cond};
-ghost use Prim.Native.Nat.{_+_, _-_, _*_, _≤_, _<_};
-ghost use lib.ListN.{getD, set, length, replicate};
+ghost use Prim.Native.Nat.{_*_, _≤_, _<_};
+ghost use lib.ListN.{replicate};
 ghost use lib.Dec.{eqb, ltb};
-ghost use Rattle.rules.specs.declared.Pick.the-variants.{Nobody};
 ghost use Rattle.rules.specs.Units.{tranches};
 ghost use Rattle.rules.specs.Count.{firstUpTo};
 ghost use Rattle.rules.specs.Held.{standing, above};
-ghost use Rattle.rules.specs.Accept.{changed, column, every, heldOf, keptOf};
-ghost use Rattle.rules.specs.Outbid.{deemIf, deemedUpTo, deniedOne, retainedOne, outbid, outbidAll};
+ghost use Rattle.rules.specs.Accept.{changed};
+ghost use Rattle.rules.specs.Outbid.{deemIf, deemedUpTo, outbid, outbidAll};
 ghost use Rattle.rules.specs.Round.{drawn};
-ghost use Rattle.search.specs.Room.{Room, Drawn, isOne, targetOn};
+ghost use Rattle.draw.specs.Drawn.{Drawn};
+ghost use Rattle.held.specs.Ticks.{isOne};
+ghost use Rattle.table.specs.Next.{nobody};
+ghost use Rattle.table.specs.Room.{Room, targetOn};
 ghost use Rattle.table.specs.Rows.{placesIn};
-ghost use Rattle.outbid.specs.Loss.{Counted, overBy, Looking, deniedOf, Known, Lost};
+ghost use Rattle.outbid.specs.Loss.{Empty, Summed, AsMuch, lessOf, overBy, Looking, Timed, Asked, Soonest, Lost};
 use rules::Pick;
 use rules::Place;
+use rules::Record;
 use rules::Tranches;
-use search::Best;
+use table::NOTHING;
+use table::Next;
 use table::WIDTH;
 
 // ---- Step 3
@@ -27,15 +31,11 @@ fn deem_at(ps: &mut [[u32; WIDTH]; 256], k: usize, tick: u8)
     requires { ⌜ (k < 256) × Room (placesIn (now ps)) ⌝ }
     ensures { λ _. ⌜ placesIn (now (ps .exit)) ≡ changed (deemIf (eqb tick 1)) (placesIn (now (ps .entry))) k ⌝ }
 {
-    if tick == 1 {
-        return;
-    }
-    if table::rise(ps, k) == 0 {
-        return;
-    }
     let l = table::place_at(ps, k);
-    let x = l.deem();
-    table::put(ps, k, x);
+    if (tick != 1) & (0 < l.rise.0) {
+        let x = l.deem();
+        table::put(ps, k, x);
+    }
 }
 
 pub fn deem_all(ps: &mut [[u32; WIDTH]; 256], ticks: &[u8; 8], bidders: usize)
@@ -50,87 +50,48 @@ pub fn deem_all(ps: &mut [[u32; WIDTH]; 256], ticks: &[u8; 8], bidders: usize)
     }
 }
 
-// ---- Step 4: what is held, kept and denied of each product stands beside the places
+// ---- Step 4: what is held and kept of each product stands beside the places
 
-struct Sums {
-    pub held: u32,
-    pub kept: u32,
-    pub denied: u32,
-}
-
-fn sums_on(ps: &[[u32; WIDTH]; 256], product: usize, bidders: usize) -> Sums
-    requires { ⌜ (product < 8) × (bidders ≤ 32) ⌝ }
-    ensures { λ r. ⌜ (r .held ≡ column heldOf (placesIn (now (ps .entry))) product bidders) × ((r .kept ≡ column keptOf (placesIn (now (ps .entry))) product bidders) × (r .denied ≡ column deniedOf (placesIn (now (ps .entry))) product bidders)) ⌝ }
-{
-    let mut held: u32 = 0;
-    let mut kept: u32 = 0;
-    let mut denied: u32 = 0;
-    let mut i: usize = 0;
-    while i < bidders {
-        let k = i * 8 + product;
-        held += table::held(ps, k);
-        kept += table::kept(ps, k);
-        denied += table::denied(ps, k);
-        i += 1;
-    }
-    Sums { held, kept, denied }
-}
-
+// The kept tranches of all products are returned.
 fn sum_all(
     ps: &[[u32; WIDTH]; 256],
     held: &mut [u32; 8],
     kept: &mut [u32; 8],
-    denied: &mut [u32; 8],
     bidders: usize,
-)
-    requires { ⌜ (bidders ≤ 32) × ((length (now held) ≡ 8) × ((length (now kept) ≡ 8) × (length (now denied) ≡ 8))) ⌝ }
-    ensures { λ _. ⌜ Counted (placesIn (now (ps .entry))) (now (held .exit)) (now (kept .exit)) (now (denied .exit)) bidders ⌝ }
-{
-    let mut p: usize = 0;
-    while p < 8 {
-        let s = sums_on(ps, p, bidders);
-        held[p] = s.held;
-        kept[p] = s.kept;
-        denied[p] = s.denied;
-        p += 1;
-    }
-}
-
-// The kept tranches of all bidders.
-fn kept_by_all(ps: &[[u32; WIDTH]; 256], bidders: usize) -> u32
-    requires { ⌜ bidders ≤ 32 ⌝ }
-    ensures { λ r. ⌜ (r ≡ every keptOf (placesIn (now (ps .entry))) bidders) × (r ≤ 33553920) ⌝ }
+) -> u32
+    requires { ⌜ Empty bidders (now held) (now kept) ⌝ }
+    ensures { λ r. ⌜ Summed (placesIn (now (ps .entry))) (now (held .exit)) (now (kept .exit)) bidders r ⌝ }
 {
     let n = bidders * 8;
-    let mut sum: u32 = 0;
+    let mut all: u32 = 0;
     let mut k: usize = 0;
     while k < n {
-        sum += table::kept(ps, k);
+        let r = table::record(ps, k);
+        let h = r.held();
+        let x = r.kept();
+        let p = k % 8;
+        held[p] = held[p] + h;
+        kept[p] = kept[p] + x;
+        all += x;
         k += 1;
     }
-    sum
+    all
 }
 
-fn lower(sums: &mut [u32; 8], p: usize, by: u32)
-    requires { ⌜ (p < 8) × ((length (now sums) ≡ 8) × (by ≤ getD (now sums) p 0)) ⌝ }
-    ensures { λ _. ⌜ now (sums .exit) ≡ set (now (sums .entry)) p (getD (now (sums .entry)) p 0 - by) ⌝ }
+fn lower(held: &mut [u32; 8], kept: &mut [u32; 8], p: usize, by: u32)
+    requires { ⌜ AsMuch (now held) (now kept) p by ⌝ }
+    ensures { λ _. ⌜ (now (held .exit) ≡ lessOf (now (held .entry)) p by) × (now (kept .exit) ≡ lessOf (now (kept .entry)) p by) ⌝ }
 {
-    sums[p] = sums[p] - by;
+    held[p] = held[p] - by;
+    kept[p] = kept[p] - by;
 }
-
-// ---- The product
 
 fn is_over(held: u32, kept: u32, target: u16, tick: u8) -> bool
     requires { ⌜ held ≤ 10000000 ⌝ }
     ensures { λ r. ⌜ r ≡ (not (eqb tick 1) && (above (standing held target) && ltb 0 kept)) ⌝ }
 {
-    if tick == 1 {
-        return false;
-    }
-    if search::is_above(search::standing_of(held, target)) {
-        return 0 < kept;
-    }
-    false
+    let above = held::is_above(held::standing_of(held, target));
+    (tick != 1) & (above & (0 < kept))
 }
 
 // The first product that didn't tick, is above target and has a kept tranche. None before `from` is one.
@@ -157,6 +118,56 @@ fn first_over(
 
 // ---- The tranche outbid
 
+// Turns, of which the lowest is outbid first: "denied switches first, then the highest exit price".
+const SWITCH: u64 = 0;
+
+fn turn_of(r: Record) -> u64
+    ensures { λ t. ⌜ Timed t r ⌝ }
+{
+    if 0 < r.denied.0 {
+        return SWITCH;
+    }
+    if 0 < r.retained.count.0 {
+        return 4294967296 - r.retained.exit as u64;
+    }
+    NOTHING
+}
+
+fn known_if(next: Next, sure: bool) -> Next
+    ensures { λ r. ⌜ r ≡ cond sure next nobody ⌝ }
+{
+    if sure {
+        return next;
+    }
+    Next {
+        at: 0,
+        turn: NOTHING,
+    }
+}
+
+// "ties by earliest draw". Looked for only where it is not known.
+fn next_turn(ps: &[[u32; WIDTH]; 256], order: &[u8], p: usize, bidders: usize, known: Next) -> Next
+    requires { ⌜ Asked bidders (now order) (placesIn (now ps)) p known ⌝ }
+    ensures { λ r. ⌜ Soonest bidders (drawn (now (order .entry))) (placesIn (now (ps .entry))) p r ⌝ }
+{
+    if known.turn < NOTHING {
+        return known;
+    }
+    let mut best = Next {
+        at: 0,
+        turn: NOTHING,
+    };
+    let mut i: usize = 0;
+    while i < bidders {
+        let b = draw::bidder_at(order, i, bidders);
+        let r = table::record(ps, b * 8 + p);
+        let turn = turn_of(r);
+        best = best.sooner(i, turn);
+        i += 1;
+    }
+    best
+}
+
 // What one outbid tranche changes: a place, its owner's free eligibility, and the count; and who is known to be next.
 struct Loss {
     pub at: usize,
@@ -164,76 +175,17 @@ struct Loss {
     pub owner: usize,
     pub freed: u16,
     pub more: u32,
-    pub next: Pick,
+    pub next: Next,
 }
 
-fn known_if(who: Pick, sure: bool) -> Pick
-    ensures { λ r. ⌜ r ≡ cond sure who Nobody ⌝ }
-{
-    if sure {
-        return who;
-    }
-    Pick::Nobody
-}
-
-// "denied switches first": looked for only where there are any.
-fn first_denied(
-    ps: &[[u32; WIDTH]; 256],
-    order: &[u8],
-    p: usize,
-    bidders: usize,
-    denied: u32,
-) -> Pick
-    requires { ⌜ Drawn bidders (now order) × ((p < 8) × (denied ≡ column deniedOf (placesIn (now ps)) p bidders)) ⌝ }
-    ensures { λ r. ⌜ r ≡ deniedOne bidders (drawn (now (order .entry))) (placesIn (now (ps .entry))) p ⌝ }
-{
-    if denied == 0 {
-        return Pick::Nobody;
-    }
-    let mut i: usize = 0;
-    while i < bidders {
-        let b = search::bidder_at(order, i, bidders);
-        if 0 < table::denied(ps, b * 8 + p) {
-            return Pick::At(i);
-        }
-        i += 1;
-    }
-    Pick::Nobody
-}
-
-// "then the highest exit price; ties by earliest draw": looked for only where it is not known.
-fn highest(ps: &[[u32; WIDTH]; 256], order: &[u8], p: usize, bidders: usize, known: Pick) -> Pick
-    requires { ⌜ Drawn bidders (now order) × ((p < 8) × Known bidders (drawn (now order)) (placesIn (now ps)) p known) ⌝ }
-    ensures { λ r. ⌜ r ≡ retainedOne bidders (drawn (now (order .entry))) (placesIn (now (ps .entry))) p ⌝ }
-{
-    if let Pick::At(_) = known {
-        return known;
-    }
-    let mut best = Best::none();
-    let mut i: usize = 0;
-    while i < bidders {
-        let b = search::bidder_at(order, i, bidders);
-        let k = b * 8 + p;
-        let exit = table::exit(ps, k);
-        best = best.higher(i, 0 < table::retained(ps, k), exit);
-        i += 1;
-    }
-    best.who
-}
-
-// No denied switch is left. A bidder with another withdrawal retained is next again.
-fn lose_retained(
-    ps: &[[u32; WIDTH]; 256],
-    order: &[u8],
-    p: usize,
-    bidders: usize,
-    known: Pick,
-) -> Loss
-    requires { ⌜ Room (placesIn (now ps)) × (Drawn bidders (now order) × ((p < 8) × (Known bidders (drawn (now order)) (placesIn (now ps)) p known × (deniedOne bidders (drawn (now order)) (placesIn (now ps)) p ≡ Nobody)))) ⌝ }
+// A bidder with another of the same kind left is next again.
+fn lose(ps: &[[u32; WIDTH]; 256], order: &[u8], p: usize, bidders: usize, known: Next) -> Loss
+    requires { ⌜ Asked bidders (now order) (placesIn (now ps)) p known ⌝ }
     ensures { λ r. ⌜ Lost bidders (drawn (now (order .entry))) (placesIn (now (ps .entry))) p r ⌝ }
 {
-    let who = highest(ps, order, p, bidders, known);
-    let Pick::At(j) = who else {
+    let s = next_turn(ps, order, p, bidders, known);
+    // Nothing is left to outbid there. No book that stands leads here.
+    if s.turn == NOTHING {
         let l = table::place_at(ps, 0);
         return Loss {
             at: 0,
@@ -241,16 +193,29 @@ fn lose_retained(
             owner: 0,
             freed: 0,
             more: 0,
-            next: Pick::Nobody,
+            next: s,
         };
-    };
-    let b = search::bidder_at(order, j, bidders);
+    }
+    let b = draw::bidder_at(order, s.at, bidders);
     let at = b * 8 + p;
     let l = table::place_at(ps, at);
+    if s.turn == SWITCH {
+        // "An outbid denied switch becomes one free eligibility of its owner."
+        let place = l.outbid_switch();
+        let next = known_if(s, 0 < place.holds.denied.0);
+        return Loss {
+            at,
+            place,
+            owner: b,
+            freed: 1,
+            more: 1,
+            next,
+        };
+    }
     let place = l.outbid_withdrawal();
     // "An outbid withdrawal is gone."
     let freed = 0;
-    let next = known_if(who, 0 < place.holds.retained.count.0);
+    let next = known_if(s, 0 < place.holds.retained.count.0);
     Loss {
         at,
         place,
@@ -258,36 +223,6 @@ fn lose_retained(
         freed,
         more: 1,
         next,
-    }
-}
-
-// "An outbid denied switch becomes one free eligibility of its owner."
-fn lose(
-    ps: &[[u32; WIDTH]; 256],
-    order: &[u8],
-    p: usize,
-    bidders: usize,
-    denied: u32,
-    known: Pick,
-) -> Loss
-    requires { ⌜ Room (placesIn (now ps)) × (Drawn bidders (now order) × ((p < 8) × (Known bidders (drawn (now order)) (placesIn (now ps)) p known × (denied ≡ column deniedOf (placesIn (now ps)) p bidders)))) ⌝ }
-    ensures { λ r. ⌜ Lost bidders (drawn (now (order .entry))) (placesIn (now (ps .entry))) p r ⌝ }
-{
-    let who = first_denied(ps, order, p, bidders, denied);
-    let Pick::At(j) = who else {
-        return lose_retained(ps, order, p, bidders, known);
-    };
-    let b = search::bidder_at(order, j, bidders);
-    let at = b * 8 + p;
-    let l = table::place_at(ps, at);
-    let place = l.outbid_switch();
-    Loss {
-        at,
-        place,
-        owner: b,
-        freed: 1,
-        more: 1,
-        next: Pick::Nobody,
     }
 }
 
@@ -312,29 +247,28 @@ pub fn outbid_all(
 {
     let mut held = [0u32; 8];
     let mut kept = [0u32; 8];
-    let mut denied = [0u32; 8];
-    sum_all(ps, &mut held, &mut kept, &mut denied, bidders);
     let mut free = [Tranches(0); 32];
     let mut count: u32 = 0;
     let mut from: usize = 0;
-    let mut next = Pick::Nobody;
-    let mut fuel = kept_by_all(ps, bidders);
+    let mut next = Next {
+        at: 0,
+        turn: NOTHING,
+    };
+    let mut fuel = sum_all(ps, &mut held, &mut kept, bidders);
     while 0 < fuel {
         let q = first_over(&held, &kept, targets, ticks, from, products);
         let Pick::At(p) = q else {
             return Freed { free, count };
         };
         let known = known_if(next, p == from);
-        let o = lose(ps, order, p, bidders, denied[p], known);
+        let o = lose(ps, order, p, bidders, known);
         let at = o.at;
         let place = o.place;
         let owner = o.owner;
         let more = o.more;
         let freed = o.freed;
         table::put(ps, at, place);
-        lower(&mut held, p, more);
-        lower(&mut kept, p, more);
-        lower(&mut denied, p, freed as u32);
+        lower(&mut held, &mut kept, p, more);
         let f = free[owner];
         let has = f.0 + freed;
         free[owner] = Tranches(has);

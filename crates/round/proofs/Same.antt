@@ -16,7 +16,7 @@ use Rattle.rules.specs.Held.{standing, below, above}
 use Rattle.rules.specs.Accept.{changed, column, heldOf, keptOf}
 use Rattle.rules.specs.Keep.{short, keepStep, kept, whileShort, keepLoop}
 use Rattle.rules.specs.Outbid.{deemIf, deemedUpTo, whileOver, outbidStep, over, outbidLoop}
-use Rattle.search.proofs.Laws.{first-ext}
+use Rattle.table.proofs.Laws.{first-ext}
 
 while-short : (q : Pick) (f g : ℕ → Kept) (done : Kept) → ((p : ℕ) → f p ≡ g p) → whileShort q f done ≡ whileShort q g done
 while-short (At p) f g done h = h p

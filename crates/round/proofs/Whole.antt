@@ -26,7 +26,9 @@ use Rattle.laws.proofs.Round.{round-rest-loads}
 use Rattle.book.specs.Lent.{Lent}
 use Rattle.held.specs.Ticks.{Ticks}
 use Rattle.rules.specs.Parts.{withPhase}
-use Rattle.search.specs.Room.{Drawn, isOne, targetOn}
+use Rattle.draw.specs.Drawn.{Drawn}
+use Rattle.held.specs.Ticks.{isOne}
+use Rattle.table.specs.Room.{targetOn}
 use Rattle.round.specs.Ready.{Targets, settledFrom, Ready, Calculates}
 use Rattle.round.specs.declared.Tally.{Tally}
 use Rattle.round.proofs.Bids.{drawn-all}

@@ -15,7 +15,7 @@ use Rattle.rules.specs.Round.{drawFits, onward, stops, calculated}
 use Rattle.rules.specs.Layout.{loaded, stored}
 use Rattle.book.specs.Lent.{Long}
 use Rattle.held.specs.Ticks.{Ticks}
-use Rattle.search.specs.Room.{targetOn}
+use Rattle.table.specs.Room.{targetOn}
 use Rattle.rules.specs.Parts.{withPhase}
 use Rattle.round.specs.declared.Tally.{Tally}
 

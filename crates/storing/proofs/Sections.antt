@@ -219,10 +219,13 @@ onto part w wide x k n m e =
     sym (replicate-append-replicate (n * w) m 0) ∙ ap (λ z. z ++ replicate m 0) (sym (zeros-are (λ i. replicate w 0) w n (λ i h. refl)))))
     (append-assoc x (bytesUpTo part n) (replicate m 0))
 
--- the head is the first of them
-first : (h : List ℕ) → length h ≡ headWidth → sets (replicate stateLength 0) 0 h ≡ h ++ replicate (stateLength - headWidth) 0
+-- nine bytes of the head are the first of them, and the bitmap is left
+first : (h : List ℕ) → length h ≡ 9 → sets (replicate stateLength 0) 0 h ≡ h ++ replicate 4 0 ++ replicate (stateLength - headWidth) 0
 unfolding each bytesUpTo
-first h e = onto (λ k. h) headWidth (λ k. e) [] 0 1 (stateLength - headWidth) refl
+first h e =
+    let n = stateLength - headWidth in
+    onto (λ k. h) 9 (λ k. e) [] 0 1 (stateLength - 9) refl
+    ∙ ap (λ z. h ++ z) (sym (replicate-append-replicate 4 n 0)) ∙ sym (append-assoc h (replicate 4 0) (replicate n 0))
 
 module _ (t : Setup) where
   no-records : recordsPart (opened t) ≡ replicate (256 * recordWidth) 0
@@ -233,13 +236,13 @@ module _ (t : Setup) where
   unfolding opened
   no-lines = zeros-are _ 6 256 (λ k h. ap (λ l. lineBytes l) (getD-replicate 256 k noLine noLine h))
 
-  pub opened-written : {s s₁ s₂ s₃ s₄ : List ℕ} → s ≡ replicate stateLength 0 → s₁ ≡ sets s 0 (headBytes (opened t))
+  pub opened-written : {s s₁ s₂ s₃ s₄ : List ℕ} → s ≡ replicate stateLength 0 → s₁ ≡ sets s 0 (take 9 (headBytes (opened t)))
       → s₂ ≡ each (lanePart (opened t)) productsFrom productWidth 8 s₁ → s₃ ≡ each (seatPart (opened t)) biddersFrom bidderWidth 32 s₂
       → s₄ ≡ each (λ i. rowBytes (getD (t .decrements .row) i noRow)) rowsFrom rowWidth 8 s₃ → s₄ ≡ stored (opened t)
   unfolding stored opened
   opened-written e e₁ e₂ e₃ e₄ =
       let o = opened t in
-      let f₁ = e₁ ∙ ap (λ s. sets s 0 (headBytes o)) e ∙ first (headBytes o) refl in
+      let f₁ = e₁ ∙ ap (λ s. sets s 0 (take 9 (headBytes o))) e ∙ first (take 9 (headBytes o)) refl in
       let f₂ = e₂ ∙ ap (each (lanePart o) productsFrom productWidth 8) f₁
       ∙ onto (lanePart o) productWidth (λ k. refl) (headBytes o) productsFrom 8 (stateLength - biddersFrom) refl in
       let f₃ = e₃ ∙ ap (each (seatPart o) biddersFrom bidderWidth 32) f₂

@@ -1,22 +1,19 @@
 // The auction is written where it stands in the lent bytes: a call writes the parts that it changes, and leaves the rest. What each
 // function ensures holds for every auction that the bytes hold before it, so that one write follows another without reading back.
 ghost use mathlib.Core.Path.{_≡_};
-ghost use mathlib.Core.List.{_++_};
 ghost use Prim.Native.Nat.{_+_, _≤_, _<_};
-ghost use lib.ListN.{length, getD, replicate};
+ghost use lib.ListN.{length, getD, take, replicate};
 ghost use lib.Seq.{sets};
 ghost use Rattle.rules.specs.declared.Auction.{Auction};
-ghost use Rattle.rules.specs.Parts.{tranchesAt, lane, laneAt, seatAt, noRow, withPhase, withRound, withPrices, withLimits, withFree, withRecords};
+ghost use Rattle.rules.specs.Parts.{tranchesAt, laneAt, seatAt, noRow, withPhase, withRound, withPrices, withLimits, withFree, withRecords};
 ghost use Rattle.rules.specs.Calls.{opened};
-ghost use Rattle.rules.specs.Layout.{stateLength, productWidth, bidderWidth, rowWidth, recordWidth, lineWidth, productsFrom, biddersFrom, rowsFrom, byte1, bytes2, bytes3, bytes4, headBytes, laneBytes, seatBytes, rowBytes, recordBytes, lineBytes, stored, loaded};
+ghost use Rattle.rules.specs.Layout.{stateLength, productWidth, bidderWidth, rowWidth, lineWidth, productsFrom, biddersFrom, rowsFrom, byte1, bytes2, bytes3, headBytes, laneBytes, seatBytes, rowBytes, lineBytes, stored, loaded};
 ghost use Rattle.book.specs.Lent.{Long};
 ghost use Rattle.table.specs.Rows.{placesIn};
 ghost use Rattle.storing.specs.Written.{Writes, withFiled, withSlot, withoutLines, amountAt, recordsIn, each};
 use rules::Decrements;
-use rules::Item;
 use rules::Line;
 use rules::Quote;
-use rules::Record;
 use rules::Setup;
 use rules::Tranches;
 
@@ -62,28 +59,6 @@ fn three(s: &mut [u8], k: usize, x: u32)
     s[k + 2] = (x % 256) as u8;
 }
 
-fn four(s: &mut [u8], k: usize, x: u32)
-    requires { ⌜ k + 4 ≤ length (now s) ⌝ }
-    ensures { λ _. ⌜ now (s .exit) ≡ sets (now (s .entry)) k (bytes4 x) ⌝ }
-{
-    s[k] = (x / 16777216 % 256) as u8;
-    s[k + 1] = (x / 65536 % 256) as u8;
-    s[k + 2] = (x / 256 % 256) as u8;
-    s[k + 3] = (x % 256) as u8;
-}
-
-// ---- One entry
-
-fn record(s: &mut [u8], k: usize, r: Record)
-    requires { ⌜ k + recordWidth ≤ length (now s) ⌝ }
-    ensures { λ _. ⌜ now (s .exit) ≡ sets (now (s .entry)) k (recordBytes r) ⌝ }
-{
-    one(s, k, r.going.0);
-    one(s, k + 1, r.denied.0);
-    one(s, k + 2, r.retained.count.0);
-    three(s, k + 3, r.retained.exit);
-}
-
 fn line(s: &mut [u8], k: usize, l: Line)
     requires { ⌜ k + lineWidth ≤ length (now s) ⌝ }
     ensures { λ _. ⌜ now (s .exit) ≡ sets (now (s .entry)) k (lineBytes l) ⌝ }
@@ -115,7 +90,10 @@ pub fn filed(s: &mut [u8], x: u32)
     requires { ⌜ Long (now s) ⌝ }
     ensures { λ _. ⌜ Writes (now (s .entry)) (now (s .exit)) (λ a. withFiled a x) ⌝ }
 {
-    four(s, layout::FILED, x);
+    s[layout::FILED] = (x / 16777216 % 256) as u8;
+    s[layout::FILED + 1] = (x / 65536 % 256) as u8;
+    s[layout::FILED + 2] = (x / 256 % 256) as u8;
+    s[layout::FILED + 3] = (x % 256) as u8;
 }
 
 // ---- The lines
@@ -203,47 +181,32 @@ pub fn records(s: &mut [u8], ps: &[[u32; table::WIDTH]; 256])
     let mut k: usize = 0;
     while k < 256 {
         let r = table::record(ps, k);
-        record(s, k * layout::RECORD + layout::RECORDS, r);
+        let from = k * layout::RECORD + layout::RECORDS;
+        one(s, from, r.going.0);
+        one(s, from + 1, r.denied.0);
+        one(s, from + 2, r.retained.count.0);
+        three(s, from + 3, r.retained.exit);
         k += 1;
     }
 }
 
 // ---- An auction opened
 
+// What stands before the bitmap, which is zero as issued.
 fn head(s: &mut [u8], t: Setup)
     requires { ⌜ Long (now s) ⌝ }
-    ensures { λ _. ⌜ (now (s .exit) ≡ sets (now (s .entry)) 0 (headBytes (opened t))) × Long (now (s .exit)) ⌝ }
+    ensures { λ _. ⌜ (now (s .exit) ≡ sets (now (s .entry)) 0 (take 9 (headBytes (opened t)))) × Long (now (s .exit)) ⌝ }
 {
-    byte(s, layout::PHASE, 1);
+    byte(s, layout::PHASE, rules::OPEN);
     byte(s, layout::UNIT, t.terms.unit);
     byte(s, layout::PRODUCTS, t.terms.products);
     byte(s, layout::BIDDERS, t.terms.bidders);
     byte(s, layout::ROWS, t.decrements.rows);
     two(s, layout::ROUND, 1);
     two(s, layout::STATEWIDE, t.terms.statewide.0);
-    four(s, layout::FILED, 0);
 }
 
 // Both prices are the starting price.
-fn product(s: &mut [u8], k: usize, item: Item)
-    requires { ⌜ k + productWidth ≤ length (now s) ⌝ }
-    ensures { λ _. ⌜ now (s .exit) ≡ sets (now (s .entry)) k (laneBytes (lane (item .target .0) (item .cap .0) (item .start) (item .start) (item .start))) ⌝ }
-{
-    one(s, k, item.target.0);
-    one(s, k + 1, item.cap.0);
-    three(s, k + 2, item.start);
-    three(s, k + 5, item.start);
-    three(s, k + 8, item.start);
-}
-
-fn pair(s: &mut [u8], k: usize, x: u16, y: u16)
-    requires { ⌜ k + 4 ≤ length (now s) ⌝ }
-    ensures { λ _. ⌜ now (s .exit) ≡ sets (now (s .entry)) k (bytes2 x ++ bytes2 y) ⌝ }
-{
-    two(s, k, x);
-    two(s, k + 2, y);
-}
-
 fn products(s: &mut [u8], t: Setup)
     requires { ⌜ Long (now s) ⌝ }
     ensures { λ _. ⌜ now (s .exit) ≡ each (λ p. laneBytes (laneAt (opened t) p)) productsFrom productWidth 8 (now (s .entry)) ⌝ }
@@ -251,7 +214,12 @@ fn products(s: &mut [u8], t: Setup)
     let mut p: usize = 0;
     while p < 8 {
         let v = t.item[p];
-        product(s, p * layout::LANE + layout::TARGET, v);
+        let from = p * layout::LANE + layout::TARGET;
+        one(s, from, v.target.0);
+        one(s, from + 1, v.cap.0);
+        three(s, from + 2, v.start);
+        three(s, from + 5, v.start);
+        three(s, from + 8, v.start);
         p += 1;
     }
 }
@@ -264,7 +232,9 @@ fn bidders(s: &mut [u8], t: Setup)
     let mut b: usize = 0;
     while b < 32 {
         let e = t.eligibility[b];
-        pair(s, b * layout::SEAT + layout::INITIAL, e.0, e.0);
+        let from = b * layout::SEAT + layout::INITIAL;
+        two(s, from, e.0);
+        two(s, from + 2, e.0);
         b += 1;
     }
 }
@@ -276,12 +246,9 @@ fn rows(s: &mut [u8], d: Decrements)
     let mut i: usize = 0;
     while i < 8 {
         let v = d.row[i];
-        pair(
-            s,
-            i * layout::ROW + layout::PERCENT,
-            v.percent,
-            v.decrement.0,
-        );
+        let from = i * layout::ROW + layout::PERCENT;
+        two(s, from, v.percent);
+        two(s, from + 2, v.decrement.0);
         i += 1;
     }
 }

@@ -1,11 +1,11 @@
 // The places of a round as rows of numbers, lent: no copy of the table is made. The place of bidder b on product p stands in row
 // b * 8 + p.
 ghost use mathlib.Core.Path.{_≡_};
-ghost use Prim.Native.Nat.{_≤_, _<_, _%_};
+ghost use Prim.Native.Nat.{_<_};
 ghost use lib.ListN.{set};
-ghost use Rattle.rules.specs.Held.{deniedIn, retainedIn, exitIn};
-ghost use Rattle.rules.specs.Accept.{placeAt, heldOf, keptOf, leftOf, riseOf};
-ghost use Rattle.table.specs.Rows.{placeIn, placesIn};
+ghost use Rattle.rules.specs.Accept.{placeAt};
+ghost use Rattle.table.specs.Next.{sooner};
+ghost use Rattle.table.specs.Rows.{placesIn};
 use rules::Lot;
 use rules::Place;
 use rules::Record;
@@ -32,24 +32,14 @@ const RISE: usize = 7;
 
 const PRIORITY: usize = 8;
 
-fn small(x: u32) -> u16
-    ensures { λ r. ⌜ r ≡ x % 65536 ⌝ }
+pub fn record(ps: &[[u32; WIDTH]; 256], k: usize) -> Record
+    requires { ⌜ k < 256 ⌝ }
+    ensures { λ r. ⌜ r ≡ placeAt (placesIn (now (ps .entry))) k .holds ⌝ }
 {
-    (x % 65536) as u16
-}
-
-fn byte(x: u32) -> u8
-    ensures { λ r. ⌜ r ≡ x % 256 ⌝ }
-{
-    (x % 256) as u8
-}
-
-fn record_of(x: [u32; WIDTH]) -> Record
-    ensures { λ r. ⌜ r ≡ placeIn x .holds ⌝ }
-{
-    let going = Tranches(small(x[GOING]));
-    let denied = Tranches(small(x[DENIED]));
-    let count = Tranches(small(x[RETAINED]));
+    let x = ps[k];
+    let going = Tranches((x[GOING] % 65536) as u16);
+    let denied = Tranches((x[DENIED] % 65536) as u16);
+    let count = Tranches((x[RETAINED] % 65536) as u16);
     let retained = Lot {
         count,
         exit: x[EXIT],
@@ -61,18 +51,20 @@ fn record_of(x: [u32; WIDTH]) -> Record
     }
 }
 
-fn place_of(x: [u32; WIDTH]) -> Place
-    ensures { λ r. ⌜ r ≡ placeIn x ⌝ }
+pub fn place_at(ps: &[[u32; WIDTH]; 256], k: usize) -> Place
+    requires { ⌜ k < 256 ⌝ }
+    ensures { λ r. ⌜ r ≡ placeAt (placesIn (now (ps .entry))) k ⌝ }
 {
-    let holds = record_of(x);
-    let count = Tranches(small(x[LEAVING]));
+    let holds = record(ps, k);
+    let x = ps[k];
+    let count = Tranches((x[LEAVING] % 65536) as u16);
     let leaving = Lot {
         count,
         exit: x[LEAVING_AT],
     };
-    let moving = Tranches(small(x[MOVING]));
-    let rise = Tranches(small(x[RISE]));
-    let priority = byte(x[PRIORITY]);
+    let moving = Tranches((x[MOVING] % 65536) as u16);
+    let rise = Tranches((x[RISE] % 65536) as u16);
+    let priority = (x[PRIORITY] % 256) as u8;
     Place {
         holds,
         leaving,
@@ -82,10 +74,11 @@ fn place_of(x: [u32; WIDTH]) -> Place
     }
 }
 
-fn row_of(l: Place) -> [u32; WIDTH]
-    ensures { λ r. ⌜ placeIn r ≡ l ⌝ }
+pub fn put(ps: &mut [[u32; WIDTH]; 256], k: usize, l: Place)
+    requires { ⌜ k < 256 ⌝ }
+    ensures { λ _. ⌜ placesIn (now (ps .exit)) ≡ set (placesIn (now (ps .entry))) k l ⌝ }
 {
-    [
+    ps[k] = [
         l.holds.going.0 as u32,
         l.holds.denied.0 as u32,
         l.holds.retained.count.0 as u32,
@@ -95,79 +88,28 @@ fn row_of(l: Place) -> [u32; WIDTH]
         l.moving.0 as u32,
         l.rise.0 as u32,
         l.priority as u32,
-    ]
+    ];
 }
 
-pub fn place_at(ps: &[[u32; WIDTH]; 256], k: usize) -> Place
-    requires { ⌜ k < 256 ⌝ }
-    ensures { λ r. ⌜ r ≡ placeAt (placesIn (now (ps .entry))) k ⌝ }
-{
-    place_of(ps[k])
+// ---- Whose turn it is, of the places of one product
+
+// The turn of a place with nothing to take. Every other is below it.
+pub const NOTHING: u64 = 4294967297;
+
+// The lowest turn so far, and where in the draw its bidder stands.
+pub struct Next {
+    pub at: usize,
+    pub turn: u64,
 }
 
-pub fn put(ps: &mut [[u32; WIDTH]; 256], k: usize, l: Place)
-    requires { ⌜ k < 256 ⌝ }
-    ensures { λ _. ⌜ placesIn (now (ps .exit)) ≡ set (placesIn (now (ps .entry))) k l ⌝ }
-{
-    ps[k] = row_of(l);
-}
-
-// ---- What a loop needs of a place, without the rest of it
-
-pub fn record(ps: &[[u32; WIDTH]; 256], k: usize) -> Record
-    requires { ⌜ k < 256 ⌝ }
-    ensures { λ r. ⌜ r ≡ placeAt (placesIn (now (ps .entry))) k .holds ⌝ }
-{
-    record_of(ps[k])
-}
-
-pub fn held(ps: &[[u32; WIDTH]; 256], k: usize) -> u32
-    requires { ⌜ k < 256 ⌝ }
-    ensures { λ r. ⌜ (r ≡ heldOf (placeAt (placesIn (now (ps .entry))) k)) × (r ≤ 196605) ⌝ }
-{
-    ps[k][GOING] % 65536 + ps[k][DENIED] % 65536 + ps[k][RETAINED] % 65536
-}
-
-pub fn kept(ps: &[[u32; WIDTH]; 256], k: usize) -> u32
-    requires { ⌜ k < 256 ⌝ }
-    ensures { λ r. ⌜ (r ≡ keptOf (placeAt (placesIn (now (ps .entry))) k)) × (r ≤ 131070) ⌝ }
-{
-    ps[k][DENIED] % 65536 + ps[k][RETAINED] % 65536
-}
-
-// Withdrawals and switches that may yet be kept.
-pub fn left(ps: &[[u32; WIDTH]; 256], k: usize) -> u32
-    requires { ⌜ k < 256 ⌝ }
-    ensures { λ r. ⌜ (r ≡ leftOf (placeAt (placesIn (now (ps .entry))) k)) × (r ≤ 131070) ⌝ }
-{
-    ps[k][LEAVING] % 65536 + ps[k][MOVING] % 65536
-}
-
-pub fn denied(ps: &[[u32; WIDTH]; 256], k: usize) -> u32
-    requires { ⌜ k < 256 ⌝ }
-    ensures { λ r. ⌜ r ≡ deniedIn (placeAt (placesIn (now (ps .entry))) k .holds) ⌝ }
-{
-    ps[k][DENIED] % 65536
-}
-
-pub fn retained(ps: &[[u32; WIDTH]; 256], k: usize) -> u32
-    requires { ⌜ k < 256 ⌝ }
-    ensures { λ r. ⌜ r ≡ retainedIn (placeAt (placesIn (now (ps .entry))) k .holds) ⌝ }
-{
-    ps[k][RETAINED] % 65536
-}
-
-// The exit price of what is retained.
-pub fn exit(ps: &[[u32; WIDTH]; 256], k: usize) -> u32
-    requires { ⌜ k < 256 ⌝ }
-    ensures { λ r. ⌜ r ≡ exitIn (placeAt (placesIn (now (ps .entry))) k .holds) ⌝ }
-{
-    ps[k][EXIT]
-}
-
-pub fn rise(ps: &[[u32; WIDTH]; 256], k: usize) -> u32
-    requires { ⌜ k < 256 ⌝ }
-    ensures { λ r. ⌜ r ≡ riseOf (placeAt (placesIn (now (ps .entry))) k) ⌝ }
-{
-    ps[k][RISE] % 65536
+impl Next {
+    // Of equals the earliest stays.
+    pub fn sooner(self, i: usize, turn: u64) -> Next
+        ensures { λ r. ⌜ r ≡ sooner self i turn ⌝ }
+    {
+        if turn < self.turn {
+            return Next { at: i, turn };
+        }
+        self
+    }
 }

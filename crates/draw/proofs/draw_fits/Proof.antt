@@ -1,17 +1,45 @@
+use mathlib.Core.Path.{_≡_}
+use Prim.Native.Nat.{_≤_, _-_}
+use native.Mathlib.Nat.{le-antisymm}
+use native.Mathlib.Numerals.{add-one}
+use native.Mathlib.Omega.{arith}
 use borrow.Author.Tests.{eq-eqb, ne-eqb}
 use borrow.Author.Needs.{needs}
-use Rattle.rules.proofs.Tests.{no, yes}
+use lib.Dec.{ltb, eqb}
+use Rattle.rules.specs.Count.{allUpTo, firstUpTo, isAt}
+use Rattle.rules.specs.Round.{drawn}
 use Rattle.draw.proofs.draw_fits.Statement.{statement}
 use Rattle.draw.proofs.draw_fits.Tie as tie
 
-returns : tie.Need-returns
+abbrev Inv-loop : tie.InvT-loop
+Inv-loop order bidders fit₀ all₀ b₀ fit all b =
+    (b ≤ bidders) × ((fit ≡ allUpTo (λ i. ltb (drawn order i) bidders) b)
+    × (all ≡ allUpTo (λ b. isAt (firstUpTo (λ i. eqb (drawn order i) b) bidders)) b))
+
+abbrev μ-loop : tie.MeasureT-loop
+μ-loop order bidders fit₀ all₀ b₀ fit all b = bidders - b
+
+returns : tie.Need-returns Inv-loop μ-loop
 returns c = search (ne-eqb)
 
-returns-2 : tie.Need-returns-2
-returns-2 c = search (eq-eqb, no (c .before .entries-fit .ensures) (c .if2 .taken))
+loop-holds : tie.Need-loop-holds Inv-loop μ-loop
+unfolding allUpTo
+loop-holds c = search needs
 
-returns-3 : tie.Need-returns-3
-returns-3 c = search (eq-eqb, yes (c .before .before .entries-fit .ensures) (c .before .if2 .left))
+cast-fit : tie.Need-cast-fit Inv-loop μ-loop
+cast-fit c = omega (arith, c .shared-slice-known2 .given (c .before .before .loop .b))
+
+loop-again : tie.Need-loop-again Inv-loop μ-loop
+unfolding allUpTo
+loop-again c = rw add-one (search needs, (cc, cc))
+
+returns-2 : tie.Need-returns-2 Inv-loop μ-loop
+returns-2 c =
+    let e = le-antisymm (c .before .loop .inv .0) (c .loop-test .left) in
+    rw (eq-eqb _ _ (c .before .before .if1 .left)) (cc (e))
 
 pub draw-fits-spec : {M : Type 1} → statement M
-draw-fits-spec = tie.close (tie.spec returns (λ c κs. search needs) returns-2 (λ c κs. search needs) returns-3)
+draw-fits-spec =
+    tie.close
+    (tie.spec Inv-loop μ-loop returns loop-holds (λ c. search needs) cast-fit (λ c κs. search needs) (λ c. search needs)
+    (λ c. search needs) loop-again returns-2)

@@ -14,7 +14,8 @@ returns c =
     rw (le-ltb (a .bidder) (loaded (a .s .now) .terms .bidders) (omega (arith, c .if1 .taken, c .before .bidders .ensures .0)))
 
 -- a bidder in use
-in-use : (c : tie.After-round) → let a = c .before .before .before .before .args in ltb (a .bidder) (loaded (a .s .now) .terms .bidders) ≡ true
+in-use : (c : tie.After-round) → let a = c .before .before .before .before .args in
+    ltb (a .bidder) (loaded (a .s .now) .terms .bidders) ≡ true
 in-use c =
     let a = c .before .before .before .before .args in
     lt-ltb (a .bidder) (loaded (a .s .now) .terms .bidders) (omega (arith, c .before .if1 .left, c .before .before .bidders .ensures .0))
@@ -26,8 +27,10 @@ returns-2 c =
 
 returns-3 : tie.Need-returns-3
 returns-3 c =
-    let a = c .before .before .before .before .before .before .before .before .args in
-    rw (in-use (c .before .before .before .before), eq-eqb (a .round) (loaded (a .s .now) .round) (omega (arith, c .before .before .before .if2 .left, c .before .before .before .before .round .ensures))) (c .judge .ensures)
+    let same = c .before .before .before in
+    let a = same .before .before .before .before .before .args in
+    rw (in-use (same .before), eq-eqb (a .round) (loaded (a .s .now) .round) (omega (arith, same .if2 .left, same .before .round .ensures)))
+    (c .judge .ensures)
 
 pub bid-number-spec : {M : Type 1} → statement M
 bid-number-spec =

@@ -2,8 +2,8 @@ use mathlib.Core.Path.{_≡_, refl, sym, _∙_, ap, subst}
 use Prim.Native.Nat.{_<_}
 use lib.ListN.{set}
 use Rattle.rules.specs.Accept.{placeAt, leftOf}
-use Rattle.search.specs.Room.{Fits}
-use Rattle.search.specs.Step.{Timed, turnOf, keptOne}
+use Rattle.table.specs.Room.{Fits}
+use Rattle.keep.specs.Step.{Timed, turnOf, keptOne}
 use Rattle.table.specs.Rows.{placesIn}
 use borrow.Author.Needs.{needs}
 use Rattle.keep.proofs.keep_at.Statement.{statement}

@@ -8,7 +8,7 @@ use Rattle.rules.specs.Accept.{nowhere, placeAt, accepted}
 use Rattle.rules.specs.Bid.{recordOf, bidOn}
 use Rattle.rules.specs.Layout.{loaded}
 use Rattle.rules.proofs.Lists.{list-is}
-use Rattle.search.proofs.Laws.{filled-next}
+use Rattle.table.proofs.Laws.{filled-next}
 use Rattle.table.specs.Rows.{placesIn}
 use Rattle.table.proofs.Rows.{rows-long}
 use Rattle.round.proofs.Bids.{accepted-here}

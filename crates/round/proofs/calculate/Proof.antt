@@ -1,5 +1,5 @@
 use mathlib.Core.Path.{refl, sym, subst}
-use Rattle.search.specs.Room.{Room}
+use Rattle.table.specs.Room.{Room}
 use Rattle.round.proofs.Bids.{room-accepted}
 use Rattle.round.proofs.Whole.{few, drawn-by, rest-lent, calculates}
 use borrow.Author.Needs.{needs}

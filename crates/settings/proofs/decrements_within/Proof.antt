@@ -22,8 +22,10 @@ loop-again : tie.Need-loop-again Inv-loop μ-loop
 unfolding allUpTo
 loop-again c = (search needs, rw add-one (cc))
 
+returns : tie.Need-returns Inv-loop μ-loop
+returns c = let d = c .before .before in cc (le-antisymm (d .before .loop .inv .0) (d .loop-test .left))
+
 pub decrements-within-spec : {M : Type 1} → statement M
 decrements-within-spec =
     tie.close
-    (tie.spec Inv-loop μ-loop loop-holds (λ c κs. search needs) (λ c. search needs) (λ c. search needs) loop-again (λ c κs. search needs)
-    (λ c. cc (le-antisymm (c .before .before .loop .inv .0) (c .before .loop-test .left))))
+    (tie.spec Inv-loop μ-loop loop-holds (λ c κs. search needs) (λ c. search needs) (λ c. search needs) loop-again returns)

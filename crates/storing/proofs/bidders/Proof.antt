@@ -1,5 +1,7 @@
 -- `storing::bidders` meets its contract. The parts passed are written. Assumes nothing.
+use mathlib.Core.Path.{_∙_}
 use Prim.Native.Nat.{_-_}
+use native.Mathlib.Numerals.{towards-suc}
 use native.Mathlib.Omega.{arith}
 use Rattle.rules.specs.Parts.{seat, noSeat, seatAt}
 use Rattle.rules.specs.Settings.{initialOf}
@@ -24,10 +26,11 @@ loop-again : tie.Need-loop-again Inv-loop μ-loop
 unfolding opened
 loop-again c =
     let d = c .before .before in
-    let l = d .before .before .before .before in
+    let c₂ = d .before .before .before .before in
+    let l = c₂ .before .before .before .before in
     let t = l .before .before .args .t2 in
     next-passed (l .loop .inv) (omega arith)
-    (rw (list-at (λ b. seat (initialOf t b) (initialOf t b)) noSeat 32 (l .loop .b) (omega arith)) (d .pair .ensures))
+    (rw (list-at (λ b. seat (initialOf t b) (initialOf t b)) noSeat 32 (l .loop .b) (omega arith)) (d .two2 .ensures ∙ rw (c₂ .two .ensures) (simp towards-suc)))
 
 returns : tie.Need-returns Inv-loop μ-loop
 returns c = all-passed (c .before .loop .inv) (omega arith)
@@ -36,4 +39,5 @@ pub bidders-spec : {M : Type 1} → statement M
 bidders-spec =
     tie.close
     (tie.spec Inv-loop μ-loop loop-holds (λ c. search needs) (λ c. search needs) (λ c. search needs) (λ c. search needs)
-    (λ c κs. search needs) (λ c. search needs) (λ c. search needs) loop-again (λ c. search needs) returns)
+    (λ c κs. search needs) (λ c. search needs) (λ c κs. search needs) (λ c. search needs) (λ c. search needs) loop-again
+    (λ c. search needs) returns)

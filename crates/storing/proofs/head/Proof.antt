@@ -14,10 +14,9 @@ returns c =
     let c₄ = c₃ .before .before .before .before in
     let c₅ = c₄ .before .before .before .before in
     let c₆ = c₅ .before .before .before .before in
-    let c₇ = c₆ .before .before .before .before in
-    let c₈ = c₇ .before .before .before .before in (
-      c₁ .four .ensures
-          ∙ rw (c₂ .two2 .ensures, c₃ .two .ensures, c₄ .byte5 .ensures, c₅ .byte4 .ensures, c₆ .byte3 .ensures, c₇ .byte2 .ensures, c₈ .byte .ensures),
+    let c₇ = c₆ .before .before .before .before in (
+      c₁ .two2 .ensures
+          ∙ rw (c₂ .two .ensures, c₃ .byte5 .ensures, c₄ .byte4 .ensures, c₅ .byte3 .ensures, c₆ .byte2 .ensures, c₇ .byte .ensures),
       search needs,
     )
 
@@ -25,4 +24,4 @@ pub head-spec : {M : Type 1} → statement M
 head-spec =
     tie.close
     (tie.spec (λ c κs. search needs) (λ c κs. search needs) (λ c κs. search needs) (λ c κs. search needs) (λ c κs. search needs)
-    (λ c κs. search needs) (λ c κs. search needs) (λ c κs. search needs) (λ c. search needs) returns)
+    (λ c κs. search needs) (λ c κs. search needs) (λ c. search needs) returns)

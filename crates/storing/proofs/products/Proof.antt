@@ -1,5 +1,7 @@
 -- `storing::products` meets its contract. The parts passed are written. Assumes nothing.
+use mathlib.Core.Path.{_∙_}
 use Prim.Native.Nat.{_-_}
+use native.Mathlib.Numerals.{towards-suc}
 use native.Mathlib.Omega.{arith}
 use Rattle.rules.specs.Parts.{lane, noLane, laneAt}
 use Rattle.rules.specs.Settings.{targetOf, capOf, startOf}
@@ -24,10 +26,15 @@ loop-again : tie.Need-loop-again Inv-loop μ-loop
 unfolding opened
 loop-again c =
     let d = c .before .before in
-    let l = d .before .before .before .before in
+    let c₂ = d .before .before .before .before in
+    let c₃ = c₂ .before .before .before .before in
+    let c₄ = c₃ .before .before .before .before in
+    let c₅ = c₄ .before .before .before .before in
+    let l = c₅ .before .before .before .before in
     let t = l .before .before .args .t2 in
     next-passed (l .loop .inv) (omega arith)
-    (rw (list-at (λ p. lane (targetOf t p) (capOf t p) (startOf t p) (startOf t p) (startOf t p)) noLane 8 (l .loop .p) (omega arith)) (d .product .ensures))
+    (rw (list-at (λ p. lane (targetOf t p) (capOf t p) (startOf t p) (startOf t p) (startOf t p)) noLane 8 (l .loop .p) (omega arith))
+    (d .three3 .ensures ∙ rw (c₂ .three2 .ensures, c₃ .three .ensures, c₄ .one2 .ensures, c₅ .one .ensures) (simp towards-suc)))
 
 returns : tie.Need-returns Inv-loop μ-loop
 returns c = all-passed (c .before .loop .inv) (omega arith)
@@ -36,4 +43,6 @@ pub products-spec : {M : Type 1} → statement M
 products-spec =
     tie.close
     (tie.spec Inv-loop μ-loop loop-holds (λ c. search needs) (λ c. search needs) (λ c. search needs) (λ c. search needs)
-    (λ c κs. search needs) (λ c. search needs) (λ c. search needs) loop-again (λ c. search needs) returns)
+    (λ c κs. search needs) (λ c. search needs) (λ c κs. search needs) (λ c. search needs) (λ c κs. search needs) (λ c. search needs)
+    (λ c κs. search needs) (λ c. search needs) (λ c κs. search needs) (λ c. search needs) (λ c. search needs) loop-again
+    (λ c. search needs) returns)

@@ -1,5 +1,7 @@
 -- `storing::rows` meets its contract. The parts passed are written. Assumes nothing.
+use mathlib.Core.Path.{_∙_}
 use Prim.Native.Nat.{_-_}
+use native.Mathlib.Numerals.{towards-suc}
 use native.Mathlib.Omega.{arith}
 use lib.ListN.{getD}
 use Rattle.rules.specs.Parts.{noRow}
@@ -21,7 +23,8 @@ loop-holds c = none-passed
 loop-again : tie.Need-loop-again Inv-loop μ-loop
 loop-again c =
     let d = c .before .before in
-    next-passed (d .before .before .before .before .loop .inv) (omega arith) (d .pair .ensures)
+    let c₂ = d .before .before .before .before in
+    next-passed (c₂ .before .before .before .before .loop .inv) (omega arith) (d .two2 .ensures ∙ rw (c₂ .two .ensures) (simp towards-suc))
 
 returns : tie.Need-returns Inv-loop μ-loop
 returns c = all-passed (c .before .loop .inv) (omega arith)
@@ -30,4 +33,5 @@ pub rows-spec : {M : Type 1} → statement M
 rows-spec =
     tie.close
     (tie.spec Inv-loop μ-loop loop-holds (λ c. search needs) (λ c. search needs) (λ c. search needs) (λ c. search needs)
-    (λ c κs. search needs) (λ c. search needs) (λ c. search needs) loop-again (λ c. search needs) returns)
+    (λ c κs. search needs) (λ c. search needs) (λ c κs. search needs) (λ c. search needs) (λ c. search needs) loop-again
+    (λ c. search needs) returns)

@@ -1,11 +1,13 @@
-use mathlib.Core.Path.{_∙_}
 use Rattle.table.proofs.Rows.{read-at}
 use borrow.Author.Needs.{needs}
 use Rattle.table.proofs.place_at.Statement.{statement}
 use Rattle.table.proofs.place_at.Tie as tie
 
 returns : tie.Need-returns
-returns c = let a = c .before .before .args in c .place-of .ensures ∙ read-at (a .ps .now) (a .k)
+returns c = let a = c .before .before .args in rw (c .before .record .ensures, ← read-at (a .ps .now) (a .k))
 
 pub place-at-spec : {M : Type 1} → statement M
-place-at-spec = tie.close (tie.spec (λ c. search needs) (λ c. search needs) (λ c κs. search needs) returns)
+place-at-spec =
+    tie.close
+    (tie.spec (λ c κs. search needs) (λ c. search needs) (λ c. search needs) (λ c. search needs) (λ c. search needs) (λ c. search needs)
+    (λ c. search needs) (λ c. search needs) (λ c. search needs) (λ c. search needs) (λ c. search needs) (λ c. search needs) returns)

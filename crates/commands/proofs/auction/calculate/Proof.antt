@@ -1,0 +1,20 @@
+use Rattle.commands.proofs.Copied.{on-copy}
+use Rattle.boxed.proofs.Steps.{calculated}
+use mathlib.Core.Logic.{inl}
+use mathlib.Core.Path.{refl}
+use borrow.Author.Needs.{needs}
+use Rattle.commands.proofs.auction.calculate.Statement.{statement}
+use Rattle.commands.proofs.auction.calculate.Tie as tie
+
+returns-3 : tie.Need-returns-3
+returns-3 c =
+    let k = c .before .before .before .before .before .before .before .before .before .before .before .before .before .before .before .before in
+    c .settle .ensures (on-copy _ _ _ (k .before .before .before .before .copy-of .ensures) (calculated _ _ _ (k .calculate .ensures .1)))
+
+pub calculate-spec : {M : Type 1} → statement M
+calculate-spec =
+    tie.close
+    (tie.spec (λ c κs. search needs) (λ c. inl refl) (λ c κs. search needs) (λ c. inl refl) (λ c κs. search needs) (λ c κs. search needs)
+    (λ c. search needs) (λ c. search needs) (λ c. search needs) (λ c. search needs) (λ c κs. search needs) (λ c. search needs)
+    (λ c. search needs) (λ c. search needs) (λ c κs. search needs) (λ c. search needs) (λ c. search needs) (λ c κs. search needs)
+    (λ c. search needs) (λ c κs. search needs) (λ c κs. search needs) (λ c. search needs) (λ c κs. search needs) returns-3 (λ c. inl refl))

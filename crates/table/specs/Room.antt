@@ -1,0 +1,27 @@
+-- What the loops of steps 2 to 4 need of the places, and the numbers that they keep beside them. Assumes nothing.
+use mathlib.Core.Path.{_≡_}
+use mathlib.Core.List.{List}
+use Prim.Native.Nat.{ℕ, _+_, _≤_, _<_}
+use lib.ListN.{getD, length}
+use Rattle.rules.specs.declared.Place.{Place}
+use Rattle.rules.specs.Held.{goingIn, deniedIn, retainedIn}
+use Rattle.rules.specs.Accept.{placeAt, column, leavingOf, movingOf, riseOf}
+
+-- no count of a place can pass its 16 bits, and every increase is part of what is at the going price
+pub record Fits (l : Place) : Type 0 where
+  pub outs : leavingOf l + retainedIn (l .holds) ≤ 7500
+  pub switches : goingIn (l .holds) + movingOf l + deniedIn (l .holds) ≤ 7500
+  pub rises : riseOf l ≤ goingIn (l .holds)
+
+pub record Room (ps : List Place) : Type 0 where
+  pub long : length ps ≡ 256
+  pub each : (k : ℕ) → Fits (placeAt ps k)
+
+-- a number for each product: its target
+abbrev pub targetOn : List ℕ → ℕ → ℕ
+targetOn targets p = getD targets p 0
+
+-- a number for each product: its sum over n bidders
+pub record Sums (f : Place → ℕ) (sums : List ℕ) (ps : List Place) (n : ℕ) : Type 0 where
+  pub long : length sums ≡ 8
+  pub each : (q : ℕ) → q < 8 → getD sums q 0 ≡ column f ps q n
