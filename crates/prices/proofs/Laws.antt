@@ -1,62 +1,239 @@
--- The next price of a unit, and the prices written. Assumes nothing.
-use mathlib.Core.Path.{_≡_, sym, ap, _∙_}
-use mathlib.Core.Bool.{true, false, cond}
+-- The next prices, product by product and of all products; and of the book that they are worked out from. Assumes nothing.
+use mathlib.Core.Path.{_≡_, refl, sym, ap, ap₂, _∙_}
+use mathlib.Core.Bool.{Bool, true, false, _&&_, _||_, cond}
 use mathlib.Core.List.{List}
-use Prim.Native.Nat.{ℕ, _*_, _/_, _<_}
-use lib.IntN.{ℤ}
-use lib.ListN.{getD}
+use Prim.Native.Nat.{ℕ, zero, suc, _+_, _*_, _-_, _/_, _≤_, _<_}
+use native.Mathlib.Nat.{div-zero}
+use native.Mathlib.Numerals.{add-one}
+use native.Mathlib.Omega.{arith}
+use borrow.Author.Tests.{le-leb, lt-leb, le-ltb, lt-ltb, ltb-true, ltb-false, eqb-true, eqb-false}
+use lib.Dec.{eqb, ltb}
+use lib.ListN.{length, getD, set, length-set}
+use lib.Seq.{getD-set-same, getD-set-other}
 use Rattle.rules.specs.declared.Price.{Price}
-use Rattle.rules.specs.declared.Decrements.{Decrements}
 use Rattle.rules.specs.declared.Quote.{Quote}
+use Rattle.rules.specs.declared.Pick.{Pick}
+use Rattle.rules.specs.declared.Pick.the-variants.{At, Nobody}
+use Rattle.rules.specs.declared.Decrements.{Decrements}
 use Rattle.rules.specs.declared.Auction.{Auction}
-use Rattle.rules.specs.Answers.{bidsOpen}
-use Rattle.rules.specs.Count.{listOf}
-use Rattle.rules.specs.Round.{priceNext, beforeNext, opensAt}
-use Rattle.rules.specs.Layout.{stored}
-use Rattle.rules.specs.Units.{amountOf, priceOf, quote}
-use Rattle.rules.specs.Held.{above, aboveZero}
+use Rattle.rules.specs.Count.{sumUpTo, better, never, firstUpTo, isAt}
+use Rattle.rules.specs.Units.{unitOf, amountOf, quote}
+use Rattle.rules.specs.Settings.{setup, targetOf, percentOf, decrementOf}
+use Rattle.rules.specs.Held.{standing, standingOf, above, aboveZero}
+use Rattle.rules.specs.Bid.{priceAt}
 use Rattle.rules.specs.Price.{fallen, priceFallen, decrementUpTo, decrementFor, nextPrice, nextBefore}
-use Rattle.rules.proofs.Units.{amount-of, unit-of}
+use Rattle.rules.specs.Round.{priceNext, beforeNext, atBottom, stops}
+use Rattle.rules.proofs.Sums.{sum-ext}
 use Rattle.rules.proofs.Lists.{list-at}
-use Rattle.rules.proofs.Parts.{prices-ext}
-use Rattle.rules.specs.Parts.{withPhase, withRound, withLanes, withPrices}
-use Rattle.storing.specs.Written.{Writes, amountAt}
+use Rattle.rules.proofs.Fill.{Filled, all-filled}
+use Rattle.rules.proofs.Units.{amount-of}
+use Rattle.rules.proofs.Signed.{above-is, above-zero}
+use Rattle.storing.specs.Written.{amountAt}
+use Rattle.prices.specs.declared.Next.{Next}
+use Rattle.prices.specs.declared.Lanes.{Lanes}
+use Rattle.prices.specs.declared.Outlook.{Outlook}
+use Rattle.prices.specs.Outlook.{WorkedOut, targetOn, standingOn, atOne, priceOn, beforeOn, Foresees, Listed, Shows}
 
-module _ (u m : ℕ) (z : ℤ) {price : Price} (e : price ≡ priceOf u m) where
-  -- "the cut is p x decrement / 10,000, rounded half up, at least 1"
-  pub falls : (t : Decrements) (target over pct d : ℕ) {r : Price} → above z ≡ true → over ≡ aboveZero z → pct ≡ 100 * over / target
-      → d ≡ decrementUpTo t pct (t .rows) → r ≡ priceFallen price d → r ≡ priceOf u (nextPrice t z target m)
-  falls t target over pct d h f g k j =
-      j ∙ unit-of u m (fallen (amountOf price) d) e
-      ∙ ap (priceOf u) (
-      ap (λ x. fallen x d) (amount-of u m e)
-      ∙ ap (fallen m) (k ∙ ap (λ x. decrementUpTo t x (t .rows)) (g ∙ ap (λ x. 100 * x / target) f))
-      ∙ sym (ap (λ b. cond b (fallen m (decrementFor t (aboveZero z) target)) m) h))
+-- ---- one product
 
+-- one row more is looked at
+module _ (d : Decrements) (pct i : ℕ) {x y e : ℕ} (ex : x ≡ percentOf d i) (ey : y ≡ decrementOf d i) (ee : e ≡ decrementUpTo d pct i) where
+  pub row-taken : x ≤ pct → y ≡ decrementUpTo d pct (i + 1)
+  row-taken h =
+      rw add-one (ey ∙ sym (ap (λ t. cond t (decrementOf d i) (decrementUpTo d pct i)) (le-leb (percentOf d i) pct (omega arith))))
+
+  pub row-left : pct < x → e ≡ decrementUpTo d pct (i + 1)
+  row-left h =
+      rw add-one (ee ∙ sym (ap (λ t. cond t (decrementOf d i) (decrementUpTo d pct i)) (lt-leb (percentOf d i) pct (omega arith))))
+
+pub no-target : (x t : ℕ) → t ≤ 0 → 0 ≡ x / t
+no-target x t h = let e : t ≡ 0 = omega arith in rw (e, div-zero)
+
+module _ (d : Decrements) (h t : ℕ) (x y : Price) where
   -- "Other prices stay."
-  pub stays : (t : Decrements) (target : ℕ) → above z ≡ false → price ≡ priceOf u (nextPrice t z target m)
-  stays t target h =
-      e ∙ ap (priceOf u) (sym (ap (λ b. cond b (fallen m (decrementFor t (aboveZero z) target)) m) h))
+  pub stays : {n : ℕ} → n ≡ aboveZero (standing h t) → n ≡ 0 → WorkedOut d h t x y (record { over = 0; price = x; before = y })
+  stays v z =
+      let e : above (standing h t) ≡ false = above-is h t ∙ le-ltb t h (omega (arith, above-zero h t)) in
+      record {
+        over = omega (arith, above-zero h t);
+        price = sym (ap (λ b. cond b (fallen (amountOf x) (decrementFor d (aboveZero (standing h t)) t)) (amountOf x)) e);
+        before = sym (ap (λ b. cond b (amountOf x) (amountOf y)) e);
+      }
 
-  module _ (n : ℕ) {before : Price} (g : before ≡ priceOf u n) where
-    pub moves : above z ≡ true → price ≡ priceOf u (nextBefore z m n)
-    moves h = e ∙ ap (priceOf u) (sym (ap (λ b. cond b m n) h))
+  -- "the cut is p x decrement / 10,000, rounded half up, at least 1"
+  pub falls : {n : ℕ} → n ≡ aboveZero (standing h t) → (n ≡ 0 → ⊥) → (pct e : ℕ) {r : Price} → pct ≡ 100 * n / t
+      → e ≡ decrementUpTo d pct (d .rows) → r ≡ priceFallen x e → WorkedOut d h t x y (record { over = n; price = r; before = x })
+  falls v l pct e f g k =
+      let o = above-is h t ∙ lt-ltb t h (omega (arith, above-zero h t, l)) in
+      let u : decrementUpTo d pct (d .rows) ≡ decrementFor d (aboveZero (standing h t)) t =
+      ap (λ p. decrementUpTo d p (d .rows)) (f ∙ ap (λ n. 100 * n / t) v) in
+      record {
+        over = v;
+        price = amount-of (unitOf x) (fallen (amountOf x) e) k ∙ ap (fallen (amountOf x)) (g ∙ u)
+            ∙ sym (ap (λ b. cond b (fallen (amountOf x) (decrementFor d (aboveZero (standing h t)) t)) (amountOf x)) o);
+        before = sym (ap (λ b. cond b (amountOf x) (amountOf y)) o);
+      }
 
-    pub waits : above z ≡ false → before ≡ priceOf u (nextBefore z m n)
-    waits h = g ∙ ap (priceOf u) (sym (ap (λ b. cond b m n) h))
+-- ---- all products
 
--- ---- the prices written
+-- a standing above zero is a number above zero
+over-is : (h t o : ℕ) → o ≡ aboveZero (standing h t) → ltb 0 o ≡ above (standing h t)
+over-is h t o e = by (ltb t h) refl ∙ sym (above-is h t)
+  where
+    by : (b : Bool) → ltb t h ≡ b → ltb 0 o ≡ b
+    by true f = let l = ltb-true t h f in lt-ltb 0 o (omega (arith, above-zero h t))
+    by false f = let l = ltb-false t h f in le-ltb 0 o (omega (arith, above-zero h t))
 
--- the amounts of quotes in one unit
-pub amount-in : (u : ℕ) (f : ℕ → ℕ) {qs : List Quote} → qs ≡ listOf (λ p. quote u (f p)) 8 → (p : ℕ) → p < 8 → amountAt qs p ≡ f p
-amount-in u f e p h =
-    amount-of u (f p) (ap (λ q. q .price) (ap (λ qs. getD qs p (quote 0 0)) e ∙ list-at (λ p. quote u (f p)) (quote 0 0) 8 p h))
+-- whether one of the first n passes, and the n-th
+found-more : (has : ℕ → Bool) (n : ℕ) → isAt (firstUpTo has n) || has n ≡ isAt (firstUpTo has (suc n))
+found-more has n = by (firstUpTo has n) (has n) refl
+  where
+    by : (q : Pick) (t : Bool) → has n ≡ t → isAt q || t ≡ isAt (better has never q n)
+    by (At i) true e = rw e
+    by (At i) false e = rw e
+    by Nobody true e = rw e
+    by Nobody false e = rw e
 
--- phase, round and prices, one after the other
-pub opens : (a : Auction) (round : ℕ) (price before : List Quote) {s s₁ s₂ s₃ : List ℕ}
-    → ((p : ℕ) → p < 8 → amountAt price p ≡ priceNext a p)
-    → ((p : ℕ) → p < 8 → amountAt before p ≡ beforeNext a p)
-    → s ≡ stored a → Writes s s₁ (λ a. withPhase a bidsOpen) → Writes s₁ s₂ (λ a. withRound a round)
-    → Writes s₂ s₃ (λ a. withPrices a (amountAt price) (amountAt before)) → s₃ ≡ stored (opensAt round a)
-opens a round price before e f h x y z =
-    z _ (y _ (x a h)) ∙ ap (λ l. stored (withLanes (withRound (withPhase a bidsOpen) round) l)) (prices-ext a (amountAt price) (amountAt before) _ _ e f)
+-- the first i quotes are of the amounts f
+pub record Amounts (f : ℕ → ℕ) (i : ℕ) (qs : List Quote) : Type 0 where
+  pub long : length qs ≡ 8
+  pub done : (q : ℕ) → q < i → amountAt qs q ≡ f q
+
+amounts-next : (f : ℕ → ℕ) (i : ℕ) (qs : List Quote) (x : Price) → Amounts f i qs → i < 8 → amountOf x ≡ f i
+    → Amounts f (i + 1) (set qs i (record { price = x }))
+amounts-next f i qs x A l e = record { long = length-set qs i _ ∙ A .long; done = λ q h. by q h (eqb q i) refl }
+  where
+    by : (q : ℕ) → q < i + 1 → (t : Bool) → eqb q i ≡ t → amountAt (set qs i (record { price = x })) q ≡ f q
+    by q h true k =
+        let n = eqb-true q i k in
+        rw n (ap (λ y. amountOf (y .price)) (getD-set-same qs i (record { price = x }) (quote 0 0) (omega (arith, A .long))) ∙ e)
+    by q h false k =
+        let n = eqb-false q i k in
+        ap (λ y. amountOf (y .price)) (getD-set-other qs i q (record { price = x }) (quote 0 0) n) ∙ A .done q (omega arith)
+
+-- the first p products are looked at, of which m are in use
+pub record Seen (d : Decrements) (holds : List ℕ) (l : Lanes) (m p : ℕ) (xs ys : List Quote) (o : ℕ) (b : Bool) : Type 0 where
+  pub within : p ≤ 8
+  pub price : Amounts (priceOn d holds l) p xs
+  pub before : Amounts (beforeOn d holds l) p ys
+  pub small : o ≤ 4294967295 * p
+  pub over : o ≡ sumUpTo (λ q. aboveZero (standingOn d holds l q)) (p - (p - m))
+  pub bottom : b ≡ isAt (firstUpTo (atOne d holds l) (p - (p - m)))
+
+module _ (d : Decrements) (holds : List ℕ) (l : Lanes) (m : ℕ) where
+  pub none-seen : {xs ys : List Quote} → length xs ≡ 8 → length ys ≡ 8 → Seen d holds l m 0 xs ys 0 false
+  none-seen e f =
+      let z : 0 - (0 - m) ≡ 0 = omega arith in record {
+        within = omega arith;
+        price = record { long = e; done = λ q h. absurd (let n : ⊥ = omega arith in n) };
+        before = record { long = f; done = λ q h. absurd (let n : ⊥ = omega arith in n) };
+        small = omega arith;
+        over = rw z refl;
+        bottom = rw z refl;
+      }
+
+  module _ {p : ℕ} {xs ys : List Quote} {o : ℕ} {b : Bool} (S : Seen d holds l m p xs ys o b) (h : p < 8) {n : Next}
+      (W : WorkedOut d (getD holds p 0) (targetOn d holds l p) (getD (l .price) p (quote 0 0) .price) (getD (l .before) p (quote 0 0) .price) n) where
+    -- a product in use
+    pub seen-used : {x : ℕ} → x ≡ amountAt (l .price) p → p < m → n .over ≤ 4294967295
+        → Seen d holds l m (p + 1) (set xs p (record { price = n .price })) (set ys p (record { price = n .before })) (o + n .over)
+        (b || (ltb 0 (n .over) && eqb x 1))
+    seen-used g u k =
+        let e : p - (p - m) ≡ p = omega arith in
+        let f : p + 1 - (p + 1 - m) ≡ suc p = omega arith in
+        record {
+          within = omega arith;
+          price = amounts-next _ p xs (n .price) (S .price) h (W .price);
+          before = amounts-next _ p ys (n .before) (S .before) h (W .before);
+          small = let t = S .small in omega arith;
+          over = rw f (ap₂ _+_ (rw e at (S .over)) (W .over));
+          bottom = rw f (
+              ap₂ _||_ (rw e at (S .bottom)) (ap₂ (λ t x. t && eqb x 1) (over-is (getD holds p 0) (targetOn d holds l p) _ (W .over)) g) ∙ found-more (atOne d holds l) p);
+        }
+
+    -- one that is not in use
+    pub seen-unused : m ≤ p
+        → Seen d holds l m (p + 1) (set xs p (record { price = n .price })) (set ys p (record { price = n .before })) o b
+    seen-unused u =
+        let e : p + 1 - (p + 1 - m) ≡ p - (p - m) = omega arith in
+        record {
+          within = omega arith;
+          price = amounts-next _ p xs (n .price) (S .price) h (W .price);
+          before = amounts-next _ p ys (n .before) (S .before) h (W .before);
+          small = let t = S .small in omega arith;
+          over = rw e (S .over);
+          bottom = rw e (S .bottom);
+        }
+
+or-is : {r t q u : Bool} → r ≡ t → q ≡ u → r || q ≡ cond t true u
+or-is {r} {t} {q} {u} e f = ap₂ _||_ e f ∙ by t
+  where
+    by : (t : Bool) → t || u ≡ cond t true u
+    by true = refl
+    by false = refl
+
+pub all-seen : (a : Auction) (holds : List ℕ) (l : Lanes) {m p r : ℕ} {xs ys : List Quote} {o : ℕ} {b : Bool}
+    → Seen (a .decrements) holds l m p xs ys o b → 8 ≤ p → m ≡ a .terms .products → a .terms .products ≤ 8 → r ≡ a .round
+    → Foresees a holds l (record { over = o; stops = b || eqb r 4095; price = xs; before = ys })
+all-seen a holds l {m} {p} {r} S h e k f =
+    let z : p - (p - m) ≡ a .terms .products = let w = S .within in omega arith in
+    record {
+      over = rw z at (S .over);
+      stops = or-is (rw z at (S .bottom)) (ap (λ x. eqb x 4095) f);
+      price = λ q g. S .price .done q (omega arith);
+      before = λ q g. S .before .done q (omega arith);
+      small = let t = S .small in let w = S .within in omega arith;
+    }
+
+-- ---- the lanes that a loop fills, at the prices of one unit
+
+module _ (u : ℕ) (t x y : ℕ → ℕ) where
+  amounts-in : (f : ℕ → ℕ) {i : ℕ} {qs : List Quote} → Filled (λ p. quote u (f p)) 8 i qs → 8 ≤ i → (p : ℕ) → p < 8 → amountAt qs p ≡ f p
+  amounts-in f F k p h =
+      amount-of u (f p) (ap (λ q. q .price) (ap (λ qs. getD qs p (quote 0 0)) (all-filled F k) ∙ list-at (λ p. quote u (f p)) (quote 0 0) 8 p h))
+
+  pub listed : {i : ℕ} {ts : List ℕ} {xs ys : List Quote} → Filled t 8 i ts → Filled (λ p. quote u (x p)) 8 i xs
+      → Filled (λ p. quote u (y p)) 8 i ys → 8 ≤ i → Listed (record { target = ts; price = xs; before = ys }) t x y
+  listed T X Y k = record {
+    target = λ p h. ap (λ ts. getD ts p 0) (all-filled T k) ∙ list-at t 0 8 p h;
+    price = amounts-in x X k;
+    before = amounts-in y Y k;
+  }
+
+-- ---- of the book that is shown
+
+first-ext : (f g : ℕ → Bool) (n : ℕ) → ((i : ℕ) → i < n → f i ≡ g i) → firstUpTo f n ≡ firstUpTo g n
+first-ext f g zero h = refl
+first-ext f g (suc n) h = by (firstUpTo f n) (firstUpTo g n) (first-ext f g n (λ i l. h i (omega arith))) (h n (omega arith))
+  where
+    by : (q r : Pick) → q ≡ r → f n ≡ g n → better f never q n ≡ better g never r n
+    by q r e k = rw e (at r k)
+      where
+        at : (r : Pick) → f n ≡ g n → better f never r n ≡ better g never r n
+        at (At i) k = rw k
+        at Nobody k = rw k
+
+module _ {a z : Auction} {holds : List ℕ} {l : Lanes} {r : Outlook} (F : Foresees a holds l r) (W : Shows a z holds l)
+    (few : a .terms .products ≤ 8) where
+  standing-same : (p : ℕ) → p < 8 → standingOn (a .decrements) holds l p ≡ standingOf z p
+  standing-same p h = ap₂ standing (W .held p h) (W .lanes .target p h)
+
+  pub over-of : r .over ≡ sumUpTo (λ p. aboveZero (standingOf z p)) (z .terms .products)
+  over-of =
+      F .over ∙ sum-ext _ _ (a .terms .products) (λ p h. ap aboveZero (standing-same p (omega arith)))
+      ∙ ap (λ t. sumUpTo (λ p. aboveZero (standingOf z p)) (t .products)) (sym (W .terms))
+
+  pub stops-of : r .stops ≡ stops z
+  stops-of =
+      F .stops
+      ∙ ap₂ (λ q x. cond (isAt q) true (eqb x 4095)) (first-ext _ _ (a .terms .products) (λ p h.
+      ap₂ (λ z x. above z && eqb x 1) (standing-same p (omega arith)) (W .lanes .price p (omega arith)))
+      ∙ ap (λ t. firstUpTo (λ p. above (standingOf z p) && eqb (priceAt z p) 1) (t .products)) (sym (W .terms))) (sym (W .round))
+
+  pub price-of : (p : ℕ) → p < 8 → amountAt (r .price) p ≡ priceNext z p
+  price-of p h =
+      F .price p h
+      ∙ (λ i. nextPrice (sym (W .decrements) i) (standing-same p h i) (W .lanes .target p h i) (W .lanes .price p h i))
+
+  pub before-of : (p : ℕ) → p < 8 → amountAt (r .before) p ≡ beforeNext z p
+  before-of p h = F .before p h ∙ (λ i. nextBefore (standing-same p h i) (W .lanes .price p h i) (W .lanes .before p h i))

@@ -1,96 +1,109 @@
-// "Next price of a product above target", and a round that opens at such prices.
-ghost use mathlib.Core.Path.{_≡_};
-ghost use mathlib.Core.Bool.{cond};
-ghost use Prim.Native.Nat.{ℕ, _*_, _/_, _<_};
-ghost use lib.Dec.{leb};
-ghost use Rattle.rules.specs.Units.{priceOf};
-ghost use Rattle.rules.specs.Price.{decrementUpTo, nextPrice, nextBefore};
-ghost use Rattle.rules.specs.Round.{opensAt};
-ghost use Rattle.rules.specs.Layout.{loaded, stored};
+// "Next price of a product above target", and what step 5 goes by: the standings above zero and the stop. All is worked out of what is
+// handed in, so that a round and a cutback write the book once, when it is known.
+ghost use Prim.Native.Nat.{ℕ, _≤_, _<_};
+ghost use lib.ListN.{getD};
+ghost use Rattle.rules.specs.Layout.{loaded};
 ghost use Rattle.book.specs.Lent.{Lent};
+ghost use Rattle.prices.specs.Outlook.{WorkedOut, Foresees};
 use rules::BasisPoints;
 use rules::Price;
 use rules::Quote;
-use rules::Row;
-use rules::Tranches;
 
-// "percentage = 100 x standing / target, rounded down". A product that is not in use has no target.
-fn percentage(over: u32, target: Tranches) -> u64
-    ensures { λ r. ⌜ r ≡ 100 * over / target .0 ⌝ }
-{
-    if target.0 == 0 {
-        return 0;
-    }
-    100 * over as u64 / target.0 as u64
-}
-
-fn or_row(row: Row, percent: u64, found: BasisPoints) -> BasisPoints
-    ensures { λ r. ⌜ r .0 ≡ cond (leb (row .percent) percent) (row .decrement .0) (found .0) ⌝ }
-{
-    if row.percent as u64 <= percent {
-        return row.decrement;
-    }
-    found
-}
-
-// "its decrement is that of the last row not above it"
-fn decrement(s: &[u8], percent: u64) -> BasisPoints
-    requires { ⌜ Lent (now s) ⌝ }
-    ensures { λ r. ⌜ r .0 ≡ decrementUpTo (loaded (now (s .entry)) .decrements) percent (loaded (now (s .entry)) .decrements .rows) ⌝ }
-{
-    let n = book::rows(s);
-    let mut found = BasisPoints(0);
-    let mut i: usize = 0;
-    while i < n {
-        found = or_row(book::row(s, i), percent, found);
-        i += 1;
-    }
-    found
+// A product's standing above zero, or 0, its next price, and the price before its latest fall.
+pub struct Next {
+    pub over: u32,
+    pub price: Price,
+    pub before: Price,
 }
 
 // "Next price of a product above target"; "Other prices stay."
-fn next_price(s: &[u8], standing: i32, target: Tranches, price: Price) -> Price
-    requires { ⌜ Lent (now s) ⌝ }
-    ensures { λ r. ⌜ ((u m : ℕ) → price ≡ priceOf u m → r ≡ priceOf u (nextPrice (loaded (now (s .entry)) .decrements) standing (target .0) m)) ⌝ }
+fn work_out(s: &[u8], held: u32, target: u16, going: Price, last: Price) -> Next
+    requires { ⌜ Lent (now s) × (held ≤ 10000000) ⌝ }
+    ensures { λ r. ⌜ WorkedOut (loaded (now (s .entry)) .decrements) held target going last r ⌝ }
 {
-    if standing > 0 {
-        return price.fall(decrement(s, percentage(held::above_zero(standing), target)));
+    let over = held::above_zero(held::standing_of(held, target));
+    if over == 0 {
+        return Next {
+            over: 0,
+            price: going,
+            before: last,
+        };
     }
-    price
+    // "percentage = 100 x standing / target, rounded down". A product that is not in use has no target.
+    let mut percent: u64 = 0;
+    if target > 0 {
+        percent = 100 * over as u64 / target as u64;
+    }
+    // "its decrement is that of the last row not above it"
+    let n = book::rows(s);
+    let mut decrement = BasisPoints(0);
+    let mut i: usize = 0;
+    while i < n {
+        let row = book::row(s, i);
+        if row.percent as u64 <= percent {
+            decrement = row.decrement;
+        }
+        i += 1;
+    }
+    Next {
+        over,
+        price: going.fall(decrement),
+        before: going,
+    }
 }
 
-// The price before its latest fall.
-fn next_before(standing: i32, price: Price, before: Price) -> Price
-    ensures { λ r. ⌜ ((u m n : ℕ) → price ≡ priceOf u m → before ≡ priceOf u n → r ≡ priceOf u (nextBefore standing m n)) ⌝ }
-{
-    if standing > 0 {
-        return price;
-    }
-    before
+// Each product's target, its going price, and the price before its latest fall.
+pub struct Lanes {
+    pub target: [u16; 8],
+    pub price: [Quote; 8],
+    pub before: [Quote; 8],
 }
 
-// A round opens at the prices that are worked out from the going prices and the book.
-pub fn opens_at(s: &mut [u8], round: u16)
-    requires { ⌜ Lent (now s) ⌝ }
-    ensures { λ _. ⌜ now (s .exit) ≡ stored (opensAt round (loaded (now (s .entry)))) ⌝ }
+// The standings above zero, summed; whether the auction stops; and the prices if it goes on.
+pub struct Outlook {
+    pub over: u64,
+    pub stops: bool,
+    pub price: [Quote; 8],
+    pub before: [Quote; 8],
+}
+
+// Of what is held of each product.
+pub fn foresee(s: &[u8], held: &[u32; 8], l: Lanes) -> Outlook
+    requires { ⌜ Lent (now s) × ((q : ℕ) → q < 8 → getD (now held) q 0 ≤ 10000000) ⌝ }
+    ensures { λ r. ⌜ Foresees (loaded (now (s .entry))) (now (held .entry)) l r ⌝ }
 {
+    let products = book::products(s);
     let none = Quote {
         price: Price::of(0, 0),
     };
     let mut price = [none; 8];
     let mut before = [none; 8];
+    let mut over: u64 = 0;
+    let mut bottom = false;
     let mut p: usize = 0;
     while p < 8 {
-        let standing = held::standing(s, p);
-        let x = book::price(s, p);
-        let next = next_price(s, standing, book::target(s, p), x);
-        price[p] = Quote { price: next };
-        let last = next_before(standing, x, book::before(s, p));
-        before[p] = Quote { price: last };
+        let x = l.price[p];
+        let y = l.before[p];
+        let going = x.price;
+        let last = y.price;
+        let next = work_out(s, held[p], l.target[p], going, last);
+        let falls = next.price;
+        let from = next.before;
+        price[p] = Quote { price: falls };
+        before[p] = Quote { price: from };
+        if p < products {
+            over += next.over as u64;
+            // "a product above target is at price 1"
+            bottom = bottom | ((next.over > 0) & (going.amount() == 1));
+        }
         p += 1;
     }
-    let _ = storing::as_stored(s);
-    storing::phase(s, 1);
-    storing::round(s, round);
-    storing::prices(s, price, before);
+    // "or this was round 4,095"
+    let stops = bottom | (book::round(s) == 4095);
+    Outlook {
+        over,
+        stops,
+        price,
+        before,
+    }
 }

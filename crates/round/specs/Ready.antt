@@ -1,27 +1,25 @@
 -- What a round asks of the lent state and of the draw, and what it does. Assumes nothing.
 use mathlib.Core.Path.{_≡_}
-use mathlib.Core.Bool.{true, cond}
+use mathlib.Core.Bool.{true}
 use mathlib.Core.List.{List}
-use Prim.Native.Nat.{ℕ, _<_}
+use Prim.Native.Nat.{ℕ, _≤_, _<_}
 use lib.ListN.{length}
-use lib.Dec.{eqb}
 use Rattle.rules.specs.declared.Auction.{Auction}
-use Rattle.rules.specs.Answers.{stopped}
 use Rattle.rules.specs.Settings.{setup, targetOf}
-use Rattle.rules.specs.Held.{excess}
+use Rattle.rules.specs.Bid.{priceAt, beforeAt}
 use Rattle.rules.specs.Legal.{isOpen}
 use Rattle.rules.specs.Stands.{Stands}
-use Rattle.rules.specs.Round.{drawFits, onward, stops, calculated}
+use Rattle.rules.specs.Round.{drawFits, calculated}
 use Rattle.rules.specs.Layout.{loaded, stored}
-use Rattle.book.specs.Lent.{Long}
+use Rattle.book.specs.Lent.{Long, Lent}
 use Rattle.held.specs.Ticks.{Ticks}
-use Rattle.table.specs.Room.{targetOn}
-use Rattle.rules.specs.Parts.{withPhase}
+use Rattle.prices.specs.declared.Lanes.{Lanes}
+use Rattle.prices.specs.Outlook.{Listed}
 use Rattle.round.specs.declared.Tally.{Tally}
 
--- a number for each product is its target
-abbrev pub Targets : List ℕ → Auction → Type 0
-Targets targets a = (p : ℕ) → p < 8 → targetOn targets p ≡ targetOf (setup a) p
+-- the targets and prices of a
+abbrev pub LanesOf : Lanes → Auction → Type 0
+LanesOf l a = Listed l (targetOf (setup a)) (priceAt a) (beforeAt a)
 
 -- the state whose bids are accepted, its ticks, and the table for them
 pub record Accepting (s marks : List ℕ) (ps : List (List ℕ)) : Type 0 where
@@ -29,9 +27,11 @@ pub record Accepting (s marks : List ℕ) (ps : List (List ℕ)) : Type 0 where
   pub ticks : Ticks marks (loaded s)
   pub places : length ps ≡ 256
 
--- step 5, of the book at rest
-abbrev pub settledFrom : Auction → Auction
-settledFrom z = cond (eqb (excess z) 0) z (cond (stops z) (withPhase z stopped) (onward z))
+-- the state before the round is written, and its lanes
+pub record Settling (s : List ℕ) (l : Lanes) : Type 0 where
+  pub lent : Lent s
+  pub round : loaded s .round ≤ 4095
+  pub lanes : LanesOf l (loaded s)
 
 -- a standing state with bids open, and a draw order of its bidders
 pub record Ready (s order : List ℕ) : Type 0 where

@@ -4,21 +4,27 @@ ghost use mathlib.Core.Path.{_≡_};
 ghost use mathlib.Core.Bool.{cond};
 ghost use Prim.Native.Nat.{_≤_};
 ghost use Rattle.rules.specs.Units.{amountOf};
-ghost use Rattle.rules.specs.Answers.{closed};
+ghost use Rattle.rules.specs.Count.{sumUpTo};
+ghost use Rattle.rules.specs.Parts.{tranchesAt, noCards, withCards};
 ghost use Rattle.rules.specs.Bid.{defaultLine};
 ghost use Rattle.rules.specs.Accept.{accepted, acceptedAll};
 ghost use Rattle.rules.specs.Outbid.{outbid};
-ghost use Rattle.rules.specs.Round.{atRest};
+ghost use Rattle.rules.specs.Round.{booked, settled};
 ghost use Rattle.rules.specs.Layout.{loaded, stored};
-ghost use Rattle.book.specs.Lent.{Long, Lent};
+ghost use Rattle.book.specs.Lent.{Long};
 ghost use Rattle.held.specs.Ticks.{Ticks};
 ghost use Rattle.table.specs.Rows.{placesIn};
-ghost use Rattle.round.specs.Ready.{Targets, Accepting, settledFrom, Ready, Calculates};
+ghost use Rattle.round.specs.Ready.{Accepting, LanesOf, Settling, Ready, Calculates};
+use prices::Lanes;
+use rules::CLOSED;
 use rules::Line;
 use rules::Lot;
+use rules::OPEN;
 use rules::Place;
 use rules::Price;
+use rules::Quote;
 use rules::Record;
+use rules::STOPPED;
 use rules::Tranches;
 use table::WIDTH;
 
@@ -80,52 +86,90 @@ fn accept_all(s: &[u8], ticks: &[u8; 8], ps: &mut [[u32; WIDTH]; 256])
     }
 }
 
-// ---- The targets, as the steps are lent them
+// ---- The targets and prices that the round goes by
 
-fn targets_of(s: &[u8]) -> [u16; 8]
+fn lanes_of(s: &[u8]) -> Lanes
     requires { ⌜ Long (now s) ⌝ }
-    ensures { λ r. ⌜ Targets r (loaded (now (s .entry))) ⌝ }
+    ensures { λ r. ⌜ LanesOf r (loaded (now (s .entry))) ⌝ }
 {
-    let mut all = [0u16; 8];
+    let none = Quote {
+        price: Price::of(0, 0),
+    };
+    let mut target = [0u16; 8];
+    let mut price = [none; 8];
+    let mut before = [none; 8];
     let mut p: usize = 0;
     while p < 8 {
-        all[p] = book::target(s, p).0;
+        target[p] = book::target(s, p).0;
+        let going = book::price(s, p);
+        price[p] = Quote { price: going };
+        let last = book::before(s, p);
+        before[p] = Quote { price: last };
         p += 1;
     }
-    all
+    Lanes {
+        target,
+        price,
+        before,
+    }
 }
 
 // ---- Step 5
 
+// All free eligibility.
+fn all_free(free: [Tranches; 32], bidders: usize) -> u64
+    requires { ⌜ bidders ≤ 32 ⌝ }
+    ensures { λ r. ⌜ (r ≡ sumUpTo (tranchesAt free) bidders) × (r ≤ 2097120) ⌝ }
+{
+    let mut sum: u64 = 0;
+    let mut b: usize = 0;
+    while b < bidders {
+        let f = free[b];
+        sum += f.0 as u64;
+        b += 1;
+    }
+    sum
+}
+
 // The book after step 4, at the same round and prices, with no cards.
-fn rest(s: &mut [u8], ps: &[[u32; WIDTH]; 256], free: [Tranches; 32], count: u32)
+fn rest(s: &mut [u8], ps: &[[u32; WIDTH]; 256], free: [Tranches; 32])
     requires { ⌜ Long (now s) ⌝ }
-    ensures { λ _. ⌜ now (s .exit) ≡ stored (atRest closed (loaded (now (s .entry))) (outbid (placesIn (now (ps .entry))) free count)) ⌝ }
+    ensures { λ _. ⌜ now (s .exit) ≡ stored (withCards (booked (loaded (now (s .entry))) (outbid (placesIn (now (ps .entry))) free 0)) noCards) ⌝ }
 {
     let _ = storing::as_stored(s);
-    storing::phase(s, 2);
     storing::filed(s, 0);
     storing::free(s, free);
     storing::records(s, ps);
     storing::no_lines(s);
 }
 
-// "If it is 0 the auction is closed. Otherwise, .. it is stopped. Otherwise prices fall and the next round opens."
-fn settle(s: &mut [u8])
-    requires { ⌜ Lent (now s) × (loaded (now s) .round ≤ 4095) ⌝ }
-    ensures { λ _. ⌜ now (s .exit) ≡ stored (settledFrom (loaded (now (s .entry)))) ⌝ }
+// "If it is 0 the auction is closed. Otherwise, .. it is stopped. Otherwise prices fall and the next round opens." The excess, the
+// stop and the prices are worked out before the book is written.
+fn settle(s: &mut [u8], ps: &[[u32; WIDTH]; 256], free: [Tranches; 32], l: Lanes)
+    requires { ⌜ Settling (now s) l ⌝ }
+    ensures { λ _. ⌜ now (s .exit) ≡ stored (settled (loaded (now (s .entry))) (outbid (placesIn (now (ps .entry))) free 0)) ⌝ }
 {
-    let _ = storing::as_stored(s);
-    let excess = held::excess(s);
+    let bidders = book::bidders(s);
+    let held = table::held_all(ps, bidders);
+    let next = prices::foresee(s, &held, l);
+    let stops = next.stops;
+    let price = next.price;
+    let before = next.before;
+    // "Total excess supply = the standings above zero, summed, plus all f."
+    let excess = next.over + all_free(free, bidders);
+    let round = book::round(s) + 1;
+    rest(s, ps, free);
     if excess == 0 {
+        storing::phase(s, CLOSED);
         return;
     }
-    if held::stops(s) {
-        storing::phase(s, 3);
+    if stops {
+        storing::phase(s, STOPPED);
         return;
     }
-    let next = book::round(s) + 1;
-    prices::opens_at(s, next);
+    storing::phase(s, OPEN);
+    storing::round(s, round);
+    storing::prices(s, price, before);
 }
 
 // ---- The whole
@@ -142,7 +186,8 @@ pub fn calculate(s: &mut [u8], draw: &[u8]) -> Tally
 {
     let products = book::products(s);
     let bidders = book::bidders(s);
-    let targets = targets_of(s);
+    let lanes = lanes_of(s);
+    let targets = lanes.target;
     let ticks = held::ticks(s);
     let mut ps = [[0u32; WIDTH]; 256];
     accept_all(s, &ticks, &mut ps);
@@ -150,8 +195,7 @@ pub fn calculate(s: &mut [u8], draw: &[u8]) -> Tally
     outbid::deem_all(&mut ps, &ticks, bidders);
     let o = outbid::outbid_all(&mut ps, &targets, &ticks, draw, products, bidders);
     let free = o.free;
-    rest(s, &ps, free, o.count);
-    settle(s);
+    settle(s, &ps, free, lanes);
     Tally {
         kept,
         outbid: o.count,

@@ -2,15 +2,17 @@
 use mathlib.Core.Path.{_≡_, refl, sym, _∙_, ap}
 use mathlib.Core.Bool.{Bool, true, false}
 use mathlib.Core.List.{List}
-use Prim.Native.Nat.{ℕ, suc, _+_, _-_, _*_, _/_, _%_, _≤_, _<_}
+use Prim.Native.Nat.{ℕ, zero, suc, _+_, _-_, _*_, _/_, _%_, _≤_, _<_}
 use native.Mathlib.Omega.{arith}
 use borrow.Author.Tests.{eqb-true, eqb-false}
 use lib.ListN.{getD, set, length, length-set, replicate, length-replicate, getD-replicate}
 use lib.Seq.{getD-set-same, getD-set-other}
 use lib.Dec.{eqb}
 use Rattle.rules.specs.declared.Place.{Place}
-use Rattle.rules.specs.Accept.{placeAt, column}
+use Rattle.rules.specs.Accept.{placeAt, column, heldOf}
 use Rattle.table.specs.Room.{Sums}
+use Rattle.table.specs.Rows.{placesIn}
+use Rattle.table.proofs.Rows.{read-at}
 
 -- the sums over the first k places: of product q they have (k + 7 - q) / 8 bidders
 pub record SumsTo (f : Place → ℕ) (sums : List ℕ) (ps : List Place) (k : ℕ) : Type 0 where
@@ -61,3 +63,11 @@ module _ (f : Place → ℕ) (sums : List ℕ) (ps : List Place) where
     long = S .long;
     each = λ q l. let u : (k + 7 - q) / 8 ≡ n = omega arith in S .each q l ∙ ap (column f ps q) u;
   }
+
+-- a place of a table holds at most three times what 16 bits hold
+place-most : (rows : List (List ℕ)) (k : ℕ) → heldOf (placeAt (placesIn rows) k) ≤ 196605
+place-most rows k = rw (sym (read-at rows k)) (omega arith)
+
+pub held-most : (rows : List (List ℕ)) (q n : ℕ) → column heldOf (placesIn rows) q n ≤ 196605 * n
+held-most rows q zero = omega arith
+held-most rows q (suc n) = omega (arith, held-most rows q n, place-most rows (n * 8 + q))

@@ -5,7 +5,7 @@ use Prim.Native.Nat.{ℕ, _+_, _≤_, _<_}
 use lib.ListN.{getD, length}
 use Rattle.rules.specs.declared.Place.{Place}
 use Rattle.rules.specs.Held.{goingIn, deniedIn, retainedIn}
-use Rattle.rules.specs.Accept.{placeAt, column, leavingOf, movingOf, riseOf}
+use Rattle.rules.specs.Accept.{placeAt, column, heldOf, leavingOf, movingOf, riseOf}
 
 -- no count of a place can pass its 16 bits, and every increase is part of what is at the going price
 pub record Fits (l : Place) : Type 0 where
@@ -25,3 +25,8 @@ targetOn targets p = getD targets p 0
 pub record Sums (f : Place → ℕ) (sums : List ℕ) (ps : List Place) (n : ℕ) : Type 0 where
   pub long : length sums ≡ 8
   pub each : (q : ℕ) → q < 8 → getD sums q 0 ≡ column f ps q n
+
+-- what is held of each product, in numbers that the signed standing takes
+pub record Held (held : List ℕ) (ps : List Place) (n : ℕ) : Type 0 where
+  pub sums : Sums heldOf held ps n
+  pub small : (q : ℕ) → q < 8 → getD held q 0 ≤ 10000000

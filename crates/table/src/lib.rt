@@ -1,10 +1,11 @@
 // The places of a round as rows of numbers, lent: no copy of the table is made. The place of bidder b on product p stands in row
 // b * 8 + p.
 ghost use mathlib.Core.Path.{_≡_};
-ghost use Prim.Native.Nat.{_<_};
+ghost use Prim.Native.Nat.{_≤_, _<_};
 ghost use lib.ListN.{set};
 ghost use Rattle.rules.specs.Accept.{placeAt};
 ghost use Rattle.table.specs.Next.{sooner};
+ghost use Rattle.table.specs.Room.{Held};
 ghost use Rattle.table.specs.Rows.{placesIn};
 use rules::Lot;
 use rules::Place;
@@ -89,6 +90,23 @@ pub fn put(ps: &mut [[u32; WIDTH]; 256], k: usize, l: Place)
         l.rise.0 as u32,
         l.priority as u32,
     ];
+}
+
+// What is held of each product.
+pub fn held_all(ps: &[[u32; WIDTH]; 256], bidders: usize) -> [u32; 8]
+    requires { ⌜ bidders ≤ 32 ⌝ }
+    ensures { λ r. ⌜ Held r (placesIn (now (ps .entry))) bidders ⌝ }
+{
+    let n = bidders * 8;
+    let mut held = [0u32; 8];
+    let mut k: usize = 0;
+    while k < n {
+        let h = record(ps, k).held();
+        let p = k % 8;
+        held[p] = held[p] + h;
+        k += 1;
+    }
+    held
 }
 
 // ---- Whose turn it is, of the places of one product

@@ -14,15 +14,9 @@ Inv-loop s caps all₀ b₀ all b = Filled (λ b. tranches (freeCut (loaded s) c
 abbrev μ-loop : tie.MeasureT-loop
 μ-loop s caps all₀ b₀ all b = 32 - b
 
-more-requires : tie.Need-more-requires Inv-loop μ-loop
-more-requires c κs =
-    let l = c .before .before .before in
-    omega (arith, c .before .free .ensures, c .cut-from .ensures .1, l .before .before .pre .room (l .loop .b) (omega arith))
-
 pub freed-spec : {M : Type 1} → statement M
 freed-spec =
     tie.close
-    (tie.spec Inv-loop μ-loop (λ c. none-filled _ (search needs)) (λ c κs. search needs) (λ c κs. search needs) more-requires
-    (λ c. search needs) (λ c. search needs) (λ c. search needs) (λ c. search needs)
-    (λ c. one-more _ (c .before .before .before .before .loop .inv) (omega arith) cc)
+    (tie.spec Inv-loop μ-loop (λ c. none-filled _ (search needs)) (λ c κs. search needs) (λ c. search needs) (λ c. search needs)
+    (λ c. search needs) (λ c. search needs) (λ c. one-more _ (c .before .before .loop .inv) (omega arith) cc)
     (λ c. all-filled (c .before .loop .inv) (omega arith)))

@@ -8,24 +8,19 @@ use Rattle.cutback.proofs.numbers_fit.Tie as tie
 returns : tie.Need-returns
 returns c =
     let d = c .before .before in
-    let a = d .before .before .before .before .before .args in
+    let a = d .before .before .before .args in
     rw (le-ltb (a .p) (loaded (a .s .now) .terms .products) (omega (arith, d .if1 .taken, d .before .products .ensures .0)))
 
 returns-2 : tie.Need-returns-2
 returns-2 c =
-    let r = c .before .before in
-    let x = r .before .before .before .before .before .before .before in
+    let x = c .before .before .before .before .before .before .before .before .before .before in
     let d = x .before .before in
-    let a = d .before .before .before .before .before .args in
+    let a = d .before .before .before .args in
     rw (
       lt-ltb (a .p) (loaded (a .s .now) .terms .products) (omega (arith, d .if1 .left, d .before .products .ensures .0)),
-      r .still-ranked .ensures,
-      x .before .target2 .ensures,
-      x .cap2 .ensures,
+      x .before .target .ensures,
+      x .cap .ensures,
     )
 
 pub numbers-fit-spec : {M : Type 1} → statement M
-numbers-fit-spec =
-    tie.close
-    (tie.spec (λ c. search needs) (λ c. search needs) (λ c. search needs) (λ c. search needs) (λ c κs. search needs) returns
-    (λ c κs. search needs) (λ c κs. search needs) (λ c κs. search needs) returns-2)
+numbers-fit-spec = tie.close (tie.spec (λ c κs. search needs) returns (λ c κs. search needs) (λ c κs. search needs) returns-2)

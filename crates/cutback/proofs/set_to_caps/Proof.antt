@@ -22,11 +22,10 @@ loop-holds : tie.Need-loop-holds Inv-loop μ-loop
 loop-holds c = none-filled _ (rows-long _ 256 (c .before .pre .1))
 
 loop-again : tie.Need-loop-again Inv-loop μ-loop
-loop-again c = rw (c .put .ensures) (one-more _ (c .before .before .before .before .before .before .before .loop .inv) (omega arith) cc)
+loop-again c = rw (c .put .ensures) (one-more _ (c .before .before .before .before .before .before .loop .inv) (omega arith) cc)
 
 pub set-to-caps-spec : {M : Type 1} → statement M
 set-to-caps-spec =
     tie.close
     (tie.spec Inv-loop μ-loop loop-holds (λ c κs. search needs) (λ c. search needs) (λ c. search needs) (λ c κs. search needs)
-    (λ c κs. search needs) (λ c κs. search needs) (λ c. search needs) (λ c. search needs) loop-again
-    (λ c. all-filled (c .before .loop .inv) (omega arith)))
+    (λ c κs. search needs) (λ c. search needs) (λ c. search needs) loop-again (λ c. all-filled (c .before .loop .inv) (omega arith)))

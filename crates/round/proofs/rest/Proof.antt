@@ -4,11 +4,14 @@ use Rattle.round.proofs.rest.Tie as tie
 
 returns : tie.Need-returns
 returns c =
-    c .before .before .no-lines .ensures _ (c .before .before .before .before .before .before .records .ensures _ (c .before .before .before .before .before .before .before .before .before .before .free .ensures _ (c .before .before .before .before .before .before .before .before .before .before .before .before .before .before .filed .ensures _ (
-    c .before .before .before .before .before .before .before .before .before .before .before .before .before .before .before .before .before .before .phase .ensures _ (c .before .before .before .before .before .before .before .before .before .before .before .before .before .before .before .before .before .before .before .before .as-stored .ensures .1)))))
+    let l = c .before .before in
+    let r = l .before .before .before .before in
+    let f = r .before .before .before .before in
+    let m = f .before .before .before .before in
+    l .no-lines .ensures _ (r .records .ensures _ (f .free .ensures _ (m .filed .ensures _ (m .before .before .as-stored .ensures .1))))
 
 pub rest-spec : {M : Type 1} → statement M
 rest-spec =
     tie.close
     (tie.spec (λ c κs. search needs) (λ c κs. search needs) (λ c κs. search needs) (λ c κs. search needs) (λ c κs. search needs)
-    (λ c κs. search needs) (λ c. search needs) returns)
+    (λ c. search needs) returns)
