@@ -1,17 +1,13 @@
 -- What a field's answer says, where the field lies inside the card. Assumes nothing.
-use mathlib.Core.Path.{_≡_, _∙_}
-use mathlib.Core.Logic.{_≢_}
-use mathlib.Core.Bool.{true, false}
+use mathlib.Core.Path.{_≡_}
 use mathlib.Core.List.{List}
 use Prim.Native.Nat.{ℕ, _+_, _-_, _*_, _^_, _<_}
 use native.Mathlib.Omega.{arith}
 use lib.ListN.{length}
-use borrow.Author.Tests.{le-leb, eq-eqb, ne-eqb}
-use lib.Dec.{eqb}
+use borrow.Author.Tests.{le-leb}
 use Rattle.rules.specs.declared.Field.{Field}
 use Rattle.rules.specs.declared.Field.the-variants.{Value, Past}
 use Rattle.rules.specs.Bits.{fieldAt}
-use Rattle.rules.specs.Card.{lineBit, cardLength, filled}
 use Rattle.bits.specs.Fields.{Inside, fieldIn}
 use Rattle.bits.proofs.BitLaws.{field-small}
 
@@ -27,14 +23,3 @@ got-value s at w r v e q h = cc (field-in s at w h)
 
 pub value-small : (s : List ℕ) (at w : ℕ) (r : Field) (v : ℕ) → r ≡ fieldIn s at w → r ≡ Value v → Inside s at w → v < 2 ^ w
 value-small s at w r v e q h = rw (got-value s at w r v e q h) (field-small s at w)
-
--- the filling bits are tested by their value
-module _ (s : List ℕ) (n used long v : ℕ) (u : used ≡ lineBit n) (l : long ≡ cardLength n) (e : v ≡ fieldAt s used (8 * long - used)) where
-  tested : filled s n ≡ eqb v 0
-  tested = rw (e, u, l)
-
-  pub filling-set : v ≢ 0 → filled s n ≡ false
-  filling-set h = tested ∙ ne-eqb v 0 h
-
-  pub filling-zero : v ≡ 0 → filled s n ≡ true
-  filling-zero h = tested ∙ eq-eqb v 0 h

@@ -6,10 +6,8 @@ use Prim.Native.Nat.{ℕ, zero, suc, _+_, _*_, _-_, _%_, _≤_, _<_}
 use native.Mathlib.Omega.{arith}
 use borrow.Author.Tests.{le-leb, le-ltb, leb-true, leb-false, eqb-true, ne-eqb}
 use lib.Dec.{leb, ltb, eqb}
-use lib.ListN.{getD}
 use Rattle.rules.specs.declared.Tranches.{Tranches}
 use Rattle.rules.specs.declared.Place.{Place}
-use Rattle.rules.specs.declared.Lane.{Lane}
 use Rattle.rules.specs.declared.Setup.{Setup}
 use Rattle.rules.specs.declared.Auction.{Auction}
 use Rattle.rules.specs.Count.{sumUpTo, allUpTo, listOf}
@@ -19,13 +17,13 @@ use Rattle.rules.specs.Parts.{tranchesAt, noLane, laneAt, priced, limited, auct
 use Rattle.rules.specs.Settings.{setup, targetOf, capOf, startOf}
 use Rattle.rules.specs.Held.{nothing, goingIn, heldIn, recordAt, place, setTo}
 use Rattle.rules.specs.Accept.{at, nowhere, placeAt, column, heldOf}
-use Rattle.rules.specs.Bid.{recordOf, priceAt}
+use Rattle.rules.specs.Bid.{recordOf}
 use Rattle.rules.specs.Round.{opensAt, priceNext, beforeNext, stops}
 use Rattle.rules.specs.Cutback.{givenFor, numbersFit, freeCut, setToCaps, reduced, cutBack}
-use Rattle.rules.specs.Layout.{stored, loaded}
+use Rattle.rules.specs.Layout.{loaded}
 use Rattle.rules.proofs.Sums.{sum-ext, sum-le, and-left}
 use Rattle.rules.proofs.Lists.{list-at, list-ext, all-take}
-use Rattle.rules.proofs.Parts.{target-is, price-anew, before-anew, free-ext}
+use Rattle.rules.proofs.Parts.{target-is, free-ext}
 use Rattle.rules.proofs.Priorities.{sum-const}
 use Rattle.rules.proofs.Fitting.{bidder-small, record-small}
 use Rattle.book.specs.Lent.{Counts}

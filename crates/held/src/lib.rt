@@ -63,13 +63,6 @@ pub fn is_above(standing: i32) -> bool
     standing > 0
 }
 
-pub fn standing(s: &[u8], p: usize) -> i32
-    requires { ⌜ Lent (now s) × (p < 8) ⌝ }
-    ensures { λ r. ⌜ (r ≡ standingOf (loaded (now (s .entry))) p) × (aboveZero (standingOf (loaded (now (s .entry))) p) ≤ 6291360) ⌝ }
-{
-    standing_of(held(s, p), book::target(s, p).0)
-}
-
 fn standing_by(s: &[u8], held: &[u32; 8], p: usize) -> i32
     requires { ⌜ Summed (now s) (now held) × (p < 8) ⌝ }
     ensures { λ r. ⌜ (r ≡ standingOf (loaded (now (s .entry))) p) × (aboveZero (standingOf (loaded (now (s .entry))) p) ≤ 6291360) ⌝ }
@@ -167,11 +160,4 @@ pub fn stops_by(s: &[u8], held: &[u32; 8]) -> bool
         p += 1;
     }
     bottom | (book::round(s) == 4095)
-}
-
-pub fn stops(s: &[u8]) -> bool
-    requires { ⌜ Lent (now s) ⌝ }
-    ensures { λ r. ⌜ r ≡ stops (loaded (now (s .entry))) ⌝ }
-{
-    stops_by(s, &sums(s))
 }

@@ -1,6 +1,6 @@
 -- The loop of step 2: what is left gives the same answer after every tranche kept. Assumes nothing.
 use mathlib.Core.Path.{_≡_, refl, sym, _∙_, ap}
-use mathlib.Core.Bool.{Bool, true, false, _&&_, cond}
+use mathlib.Core.Bool.{Bool, true, false, _&&_}
 use mathlib.Core.List.{List}
 use Prim.Native.Nat.{ℕ, zero, suc, _+_, _≤_, _<_}
 use native.Mathlib.Omega.{arith}
@@ -10,7 +10,7 @@ use Rattle.rules.specs.declared.Pick.the-variants.{At, Nobody}
 use Rattle.rules.specs.declared.Place.{Place}
 use Rattle.rules.specs.Count.{firstUpTo, never}
 use Rattle.rules.specs.Held.{standing, below}
-use Rattle.rules.specs.Accept.{column, every, heldOf, leftOf}
+use Rattle.rules.specs.Accept.{every, leftOf}
 use Rattle.rules.specs.Keep.{short, keepStep, canKeep, kept, keepLoop, keptAll}
 use Rattle.rules.specs.Round.{drawn}
 use Rattle.rules.proofs.Sums.{best-found}

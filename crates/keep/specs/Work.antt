@@ -4,7 +4,7 @@ use mathlib.Core.List.{List}
 use Prim.Native.Nat.{ℕ, _+_, _-_, _≤_, _<_}
 use lib.ListN.{getD, set, length}
 use Rattle.rules.specs.declared.Place.{Place}
-use Rattle.rules.specs.Accept.{placeAt, changed, leavingAt, leftOf, riseOf}
+use Rattle.rules.specs.Accept.{placeAt, changed, leftOf, riseOf}
 use Rattle.table.specs.Room.{Fits}
 use Rattle.keep.specs.declared.Loss.{Loss}
 use Rattle.keep.specs.Step.{Each, Timed, turnOf, Ranked, keptOne, cancelSome}

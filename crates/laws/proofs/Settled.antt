@@ -34,9 +34,6 @@ use Rattle.laws.proofs.Booked.{Booked}
 use Rattle.laws.specs.OneCall.{PriceAfter}
 use Rattle.laws.proofs.Prices.{cond-false, Priced, next, next-none}
 use Rattle.rules.proofs.Parts.{excess-same, price-anew, before-anew, prices-setup, free-anew, free-setup}
-use Rattle.rules.specs.Layout.{stored, loaded}
-use Rattle.rules.proofs.Storing.{Fits, loads}
-use Rattle.rules.proofs.Fitting.{fits}
 
 -- where a round closes: no award above a target, the target where it was filled, and for each bidder no less than it bid
 pub record Closes (a z : Auction) : Type 0 where
@@ -265,45 +262,6 @@ module _ (a : Auction) (o : Outbid) where
         long : (ph rd : ℕ) (ls : List Lane) → length ls ≡ 8 → Long (with ph rd ls)
         long ph rd ls l =
             record { lanes = l; seats = list-long _ 32; row = L .row; records = list-long _ 256; lines = length-replicate 256 noLine }
-
-    -- the book at rest is loaded as it is stored, whatever comes after it
-    pub rest-loads : Long a → a .cards .filed < 4294967296 → loaded (stored rest) ≡ rest
-    rest-loads L h = loads rest long (settled-each (λ y. Fits y → Fits rest) (λ e. over _ _ _) (λ g t. over _ _ _) (λ g e. over _ _ _) (
-        fits (settled a o) settled-stands (settled-each (λ y. y .cards .filed < 4294967296) (λ e. omega arith) (λ g t. omega arith) (λ g e. omega arith))))
-      where
-        long : Long rest
-        long =
-            record { lanes = L .lanes; seats = list-long _ 32; row = L .row; records = list-long _ 256; lines = length-replicate 256 noLine }
-
-        over : (ph rd : ℕ) (ls : List Lane) → Fits (with ph rd ls) → Fits rest
-        over ph rd ls F =
-            let G = fits a S h in record {
-              phase = omega arith;
-              unit = F .unit;
-              products = F .products;
-              bidders = F .bidders;
-              rows = F .rows;
-              round = G .round;
-              statewide = F .statewide;
-              filed = omega arith;
-              target = G .target;
-              cap = G .cap;
-              start = G .start;
-              price = G .price;
-              before = G .before;
-              initial = F .initial;
-              free = F .free;
-              percent = F .percent;
-              decrement = F .decrement;
-              going = F .going;
-              denied = F .denied;
-              retained = F .retained;
-              exit = F .exit;
-              bid = F .bid;
-              withdrawn = F .withdrawn;
-              leaving = F .leaving;
-              priority = F .priority;
-            }
 
     -- the prices after
     pub settled-prices : (p : ℕ) → p < a .terms .products → PriceAfter a (settled a o) p

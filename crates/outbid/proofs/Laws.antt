@@ -1,5 +1,5 @@
 -- The ways through steps 3 and 4, against the definition. Assumes nothing.
-use borrow.Author.Tests.{eqb-true, eqb-false, eq-eqb, ltb-true, ltb-false, lt-ltb, le-ltb}
+use borrow.Author.Tests.{eqb-true, eqb-false, ltb-true, ltb-false, lt-ltb, le-ltb}
 use mathlib.Core.Path.{_≡_, refl, sym, _∙_, ap, ap₂, subst}
 use mathlib.Core.Bool.{Bool, true, false, _&&_, not, cond}
 use mathlib.Core.List.{List}
@@ -21,11 +21,11 @@ use Rattle.rules.specs.Outbid.{deemIf, deemedUpTo, outbid, freed, deniedOne, re
 use Rattle.rules.proofs.Sums.{sum-ext, sum-one, best-found, best-none}
 use Rattle.rules.proofs.Places.{each, column-at, column-beside}
 use Rattle.table.specs.declared.Next.{Next}
-use Rattle.table.specs.Next.{nobody, turnBy}
+use Rattle.table.specs.Next.{nobody}
 use Rattle.table.specs.Room.{Fits, Room}
 use Rattle.table.proofs.Turns.{Apart, soonest-ext, next-nobody, next-first, next-second}
 use Rattle.table.proofs.Laws.{room-set}
-use Rattle.outbid.specs.Loss.{deniedOf, turnOf, turnAt, Small, Soonest, Known, freeAt, Free, Lost}
+use Rattle.outbid.specs.Loss.{deniedOf, turnOf, Small, Soonest, Known, freeAt, Free, Lost}
 
 -- ---- step 3
 

@@ -16,7 +16,7 @@ use Rattle.rules.specs.declared.Outbid.{Outbid}
 use Rattle.rules.specs.Count.{sumUpTo, firstUpTo, never}
 use Rattle.rules.specs.Units.{tranches}
 use Rattle.rules.specs.Held.{standing, above}
-use Rattle.rules.specs.Accept.{placeAt, column, every, heldOf, keptOf}
+use Rattle.rules.specs.Accept.{placeAt, column, heldOf, keptOf}
 use Rattle.rules.specs.Outbid.{outbid, whileOver, outbidStep, over, outbidLoop, outbidAll}
 use Rattle.rules.specs.Round.{drawn}
 use Rattle.rules.proofs.Sums.{best-found}

@@ -18,11 +18,11 @@ use Rattle.rules.specs.declared.Decrements.{Decrements}
 use Rattle.rules.specs.declared.Auction.{Auction}
 use Rattle.rules.specs.Count.{sumUpTo, better, never, firstUpTo, isAt}
 use Rattle.rules.specs.Units.{unitOf, amountOf, quote}
-use Rattle.rules.specs.Settings.{setup, targetOf, percentOf, decrementOf}
+use Rattle.rules.specs.Settings.{percentOf, decrementOf}
 use Rattle.rules.specs.Held.{standing, standingOf, above, aboveZero}
 use Rattle.rules.specs.Bid.{priceAt}
 use Rattle.rules.specs.Price.{fallen, priceFallen, decrementUpTo, decrementFor, nextPrice, nextBefore}
-use Rattle.rules.specs.Round.{priceNext, beforeNext, atBottom, stops}
+use Rattle.rules.specs.Round.{priceNext, beforeNext, stops}
 use Rattle.rules.proofs.Sums.{sum-ext}
 use Rattle.rules.proofs.Lists.{list-at}
 use Rattle.rules.proofs.Fill.{Filled, all-filled}

@@ -12,7 +12,6 @@ ghost use Rattle.rules.specs.Outbid.{outbid};
 ghost use Rattle.rules.specs.Round.{booked, settled};
 ghost use Rattle.rules.specs.Layout.{loaded, stored};
 ghost use Rattle.book.specs.Lent.{Long};
-ghost use Rattle.held.specs.Ticks.{Ticks};
 ghost use Rattle.table.specs.Rows.{placesIn};
 ghost use Rattle.round.specs.Ready.{Accepting, LanesOf, Settling, Ready, Calculates};
 use prices::Lanes;

@@ -1,5 +1,4 @@
 // The bytes of a line that are read so far.
-ghost use mathlib.Core.Path.{_≡_};
 ghost use Prim.Native.Nat.{_≤_};
 ghost use lib.ListN.{length};
 

@@ -2,8 +2,7 @@
 use crate::Cursor;
 use crate::word;
 ghost use mathlib.Core.Path.{_≡_};
-ghost use Prim.Native.Nat.{_≤_, _<_};
-ghost use lib.ListN.{length};
+ghost use Prim.Native.Nat.{_<_};
 ghost use Rattle.text.specs.Number.{digitAfter, readWord, takeAt};
 
 // What some digits make.

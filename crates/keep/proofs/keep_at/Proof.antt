@@ -1,4 +1,4 @@
-use mathlib.Core.Path.{_≡_, refl, sym, _∙_, ap, subst}
+use mathlib.Core.Path.{refl, sym, _∙_, ap, subst}
 use Prim.Native.Nat.{_<_}
 use lib.ListN.{set}
 use Rattle.rules.specs.Accept.{placeAt, leftOf}

@@ -1,9 +1,8 @@
 use Rattle.keep.specs.Search.{nextUpTo}
 use Rattle.rules.specs.Round.{drawn}
-use native.Mathlib.Omega.{arith}
 use native.Mathlib.Numerals.{add-one}
 use native.Mathlib.Nat.{le-antisymm}
-use Prim.Native.Nat.{_≤_, _+_, _*_, _-_}
+use Prim.Native.Nat.{_≤_, _-_}
 use mathlib.Core.Path.{_≡_}
 use borrow.Author.Needs.{needs}
 use Rattle.keep.proofs.next_turn.Statement.{statement}

@@ -1,5 +1,5 @@
 use mathlib.Core.Path.{_≡_, sym, _∙_, ap, subst}
-use Prim.Native.Nat.{ℕ, _+_, _*_, _≤_, _<_, _-_, _%_}
+use Prim.Native.Nat.{_*_, _≤_, _-_, _%_}
 use native.Mathlib.Nat.{le-antisymm}
 use native.Mathlib.Numerals.{add-one}
 use native.Mathlib.Omega.{arith}

@@ -1,9 +1,9 @@
-use mathlib.Core.Path.{_≡_, refl, sym, _∙_}
+use mathlib.Core.Path.{_≡_, refl}
 use Rattle.rules.specs.Layout.{loaded}
 use mathlib.Core.Bool.{true}
 use native.Mathlib.Omega.{arith}
 use lib.Dec.{ltb}
-use borrow.Author.Tests.{lt-ltb, le-ltb, eq-eqb, ne-eqb}
+use borrow.Author.Tests.{lt-ltb, le-ltb}
 use Rattle.rules.specs.Calls.{bidderNumber}
 use Rattle.numbers.proofs.StateLaws.{Stood, standing, not-standing, said}
 use borrow.Author.Needs.{needs}

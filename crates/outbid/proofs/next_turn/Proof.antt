@@ -1,5 +1,5 @@
-use mathlib.Core.Path.{_≡_, refl, sym, _∙_, ap, subst}
-use Prim.Native.Nat.{ℕ, suc, _+_, _*_, _≤_, _<_, _-_}
+use mathlib.Core.Path.{_≡_, refl, _∙_, ap, subst}
+use Prim.Native.Nat.{_+_, _*_, _≤_, _-_}
 use native.Mathlib.Nat.{le-antisymm}
 use native.Mathlib.Numerals.{add-one}
 use native.Mathlib.Omega.{arith}

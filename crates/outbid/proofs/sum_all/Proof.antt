@@ -1,10 +1,9 @@
 use mathlib.Core.Path.{_≡_, sym, _∙_, ap, subst}
-use Prim.Native.Nat.{ℕ, _+_, _*_, _≤_, _<_, _-_, _%_}
+use Prim.Native.Nat.{_*_, _≤_, _-_, _%_}
 use native.Mathlib.Nat.{le-antisymm}
 use native.Mathlib.Numerals.{add-one}
 use native.Mathlib.Omega.{arith}
 use borrow.Author.Needs.{needs}
-use lib.ListN.{replicate, length, getD}
 use Rattle.rules.specs.Accept.{placeAt, heldOf, keptOf}
 use Rattle.rules.specs.Count.{sumUpTo}
 use Rattle.rules.specs.Held.{heldIn, keptIn}

@@ -1,5 +1,4 @@
 use borrow.Author.Tests.{lt-ltb, le-ltb}
-use borrow.Author.Needs.{needs}
 use Rattle.keep.proofs.Best.higher.Statement.{statement}
 use Rattle.keep.proofs.Best.higher.Tie as tie
 

@@ -1,5 +1,4 @@
 use borrow.Author.Tests.{lt-ltb, le-ltb}
-use borrow.Author.Needs.{needs}
 use Rattle.table.proofs.Next.sooner.Statement.{statement}
 use Rattle.table.proofs.Next.sooner.Tie as tie
 
