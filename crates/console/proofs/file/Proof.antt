@@ -12,10 +12,16 @@ stood : (c : tie.Else1) → Stood (c .before .before .before .before .before .ar
 stood c = standing _ _ (c .before .state-number .ensures) (omega (arith, c .if1 .left))
 
 returns-2 : tie.Need-returns-2
-returns-2 c = card-refused (c .before .before .before .before .before .before .before .before .before .before .args .s .now) (c .before .before .before .before .before .before .before .before .before .before .args .card .now) (stood (c .before .before .before .before .before)) _ _ (c .before .before .before .file-card .ensures) (omega (arith, c .if2 .taken))
+returns-2 c =
+    let known = c .before .before .before .before .before in
+    let a = known .before .before .before .before .before .args in
+    card-refused (a .s .now) (a .card .now) (stood known) _ _ (c .before .before .before .file-card .ensures) (omega (arith, c .if2 .taken))
 
 returns-3 : tie.Need-returns-3
-returns-3 c = card-filed (c .before .before .before .before .before .before .before .before .before .before .args .s .now) (c .before .before .before .before .before .before .before .before .before .before .args .card .now) (stood (c .before .before .before .before .before)) _ _ (c .before .before .before .file-card .ensures) (omega (arith, c .if2 .left))
+returns-3 c =
+    let known = c .before .before .before .before .before in
+    let a = known .before .before .before .before .before .args in
+    card-filed (a .s .now) (a .card .now) (stood known) _ _ (c .before .before .before .file-card .ensures) (omega (arith, c .if2 .left))
 
 pub file-spec : {M : Type 1} → statement M
 file-spec =

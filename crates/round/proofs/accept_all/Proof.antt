@@ -29,11 +29,15 @@ loop-holds c = (omega arith, (rows-long _ 256 (c .before .pre .places), λ j l. 
 
 loop-again : tie.Need-loop-again Inv-loop μ-loop
 loop-again c =
-    let a = loaded (c .before .before .before .before .before .before .before .before .before .before .before .before .args .s .now) in
-    let v = c .before .before .before .before .before .before .before .before .before .before .loop in
+    let bid = c .before .before .before in
+    let has = bid .before .before .before in
+    let own = has .before .before in
+    let v = own .before .before .loop in
+    let start = own .before .before .before .before in
+    let a = loaded (start .args .s .now) in
     let k = v .k in
-    let e = accepted-here a (c .before .before .before .before .before .before .before .before .before .before .before .before .args .ticks .now) (c .before .before .before .before .before .before .before .before .before .before .before .before .pre .ticks) k (mod-lt k (omega arith)) (c .before .before .before .bid-of .result) (c .before .accept .result)
-    (c .before .before .before .before .before .before .has-filed .ensures) (c .before .before .before .before .before .before .before .line .ensures) (c .before .before .before .before .before2 .ensures .1) (c .before .before .before .before .before .before .before .before .record .ensures) (c .before .before .before .bid-of .ensures) (c .before .accept .ensures) in (
+    let e = accepted-here a (start .args .ticks .now) (start .pre .ticks) k (mod-lt k (omega arith)) (bid .bid-of .result) (c .before .accept .result)
+    (has .has-filed .ensures) (has .before .line .ensures) (bid .before .before2 .ensures .1) (own .record .ensures) (bid .bid-of .ensures) (c .before .accept .ensures) in (
       omega arith,
       rw (c .put .ensures) (
         simp length-set (v .inv .1 .0),
