@@ -1,5 +1,5 @@
 // Document 01, "Standing means": the clauses on prices, records and eligibility. What each says is in the crate rules,
-// specs/Standing.antt.
+// specs/Legal.antt.
 ghost use mathlib.Core.Path.{_≡_};
 ghost use mathlib.Core.Bool.{cond};
 ghost use Prim.Native.Nat.{_<_};

@@ -1,5 +1,5 @@
 // Document 01, "Standing means": whether lent bytes are a state that may stand. What each clause says is in the crate rules,
-// specs/Standing.antt.
+// specs/Legal.antt.
 ghost use mathlib.Core.Path.{_≡_};
 ghost use mathlib.Core.Bool.{_&&_};
 ghost use Rattle.rules.specs.Count.{allUpTo};

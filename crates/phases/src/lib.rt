@@ -1,5 +1,5 @@
 // Document 01, "Standing means": the clauses on open, closed and stopped states. What each says is in the crate rules,
-// specs/Standing.antt.
+// specs/Legal.antt.
 ghost use mathlib.Core.Path.{_≡_};
 ghost use Rattle.rules.specs.Legal.{asOpened, nothingKept, phaseStands};
 ghost use Rattle.rules.specs.Layout.{loaded};

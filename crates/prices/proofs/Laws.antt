@@ -2,7 +2,7 @@
 use mathlib.Core.Path.{_≡_, refl, sym, ap, ap₂, _∙_}
 use mathlib.Core.Bool.{Bool, true, false, _&&_, _||_, cond}
 use mathlib.Core.List.{List}
-use Prim.Native.Nat.{ℕ, zero, suc, _+_, _*_, _-_, _/_, _≤_, _<_}
+use Prim.Native.Nat.{ℕ, suc, _+_, _*_, _-_, _/_, _≤_, _<_}
 use native.Mathlib.Nat.{div-zero}
 use native.Mathlib.Numerals.{add-one}
 use native.Mathlib.Omega.{arith}
@@ -12,11 +12,9 @@ use lib.ListN.{length, getD, set, length-set}
 use lib.Seq.{getD-set-same, getD-set-other}
 use Rattle.rules.specs.declared.Price.{Price}
 use Rattle.rules.specs.declared.Quote.{Quote}
-use Rattle.rules.specs.declared.Pick.{Pick}
-use Rattle.rules.specs.declared.Pick.the-variants.{At, Nobody}
 use Rattle.rules.specs.declared.Decrements.{Decrements}
 use Rattle.rules.specs.declared.Auction.{Auction}
-use Rattle.rules.specs.Count.{sumUpTo, better, never, firstUpTo, isAt}
+use Rattle.rules.specs.Count.{sumUpTo, firstUpTo, isAt}
 use Rattle.rules.specs.Units.{unitOf, amountOf, quote}
 use Rattle.rules.specs.Settings.{percentOf, decrementOf}
 use Rattle.rules.specs.Held.{standing, standingOf, above, aboveZero}
@@ -28,6 +26,8 @@ use Rattle.rules.proofs.Lists.{list-at}
 use Rattle.rules.proofs.Fill.{Filled, all-filled}
 use Rattle.rules.proofs.Units.{amount-of}
 use Rattle.rules.proofs.Signed.{above-is, above-zero}
+use Rattle.held.proofs.Found.{one-more, or-is}
+use Rattle.table.proofs.Laws.{first-ext}
 use Rattle.storing.specs.Written.{amountAt}
 use Rattle.prices.specs.declared.Next.{Next}
 use Rattle.prices.specs.declared.Lanes.{Lanes}
@@ -84,16 +84,6 @@ over-is h t o e = by (ltb t h) refl ∙ sym (above-is h t)
     by true f = let l = ltb-true t h f in lt-ltb 0 o (omega (arith, above-zero h t))
     by false f = let l = ltb-false t h f in le-ltb 0 o (omega (arith, above-zero h t))
 
--- whether one of the first n passes, and the n-th
-found-more : (has : ℕ → Bool) (n : ℕ) → isAt (firstUpTo has n) || has n ≡ isAt (firstUpTo has (suc n))
-found-more has n = by (firstUpTo has n) (has n) refl
-  where
-    by : (q : Pick) (t : Bool) → has n ≡ t → isAt q || t ≡ isAt (better has never q n)
-    by (At i) true e = rw e
-    by (At i) false e = rw e
-    by Nobody true e = rw e
-    by Nobody false e = rw e
-
 -- the first i quotes are of the amounts f
 pub record Amounts (f : ℕ → ℕ) (i : ℕ) (qs : List Quote) : Type 0 where
   pub long : length qs ≡ 8
@@ -141,14 +131,15 @@ module _ (d : Decrements) (holds : List ℕ) (l : Lanes) (m : ℕ) where
     seen-used g u k =
         let e : p - (p - m) ≡ p = omega arith in
         let f : p + 1 - (p + 1 - m) ≡ suc p = omega arith in
+        let f₁ : p + 1 - (p + 1 - m) ≡ p + 1 = omega arith in
         record {
           within = omega arith;
           price = amounts-next _ p xs (n .price) (S .price) h (W .price);
           before = amounts-next _ p ys (n .before) (S .before) h (W .before);
           small = let t = S .small in omega arith;
           over = rw f (ap₂ _+_ (rw e at (S .over)) (W .over));
-          bottom = rw f (
-              ap₂ _||_ (rw e at (S .bottom)) (ap₂ (λ t x. t && eqb x 1) (over-is (getD holds p 0) (targetOn d holds l p) _ (W .over)) g) ∙ found-more (atOne d holds l) p);
+          bottom = rw f₁ (one-more (atOne d holds l) p (rw e at (S .bottom))
+              (ap₂ (λ t x. t && eqb x 1) (over-is (getD holds p 0) (targetOn d holds l p) _ (W .over)) g));
         }
 
     -- one that is not in use
@@ -164,13 +155,6 @@ module _ (d : Decrements) (holds : List ℕ) (l : Lanes) (m : ℕ) where
           over = rw e (S .over);
           bottom = rw e (S .bottom);
         }
-
-or-is : {r t q u : Bool} → r ≡ t → q ≡ u → r || q ≡ cond t true u
-or-is {r} {t} {q} {u} e f = ap₂ _||_ e f ∙ by t
-  where
-    by : (t : Bool) → t || u ≡ cond t true u
-    by true = refl
-    by false = refl
 
 pub all-seen : (a : Auction) (holds : List ℕ) (l : Lanes) {m p r : ℕ} {xs ys : List Quote} {o : ℕ} {b : Bool}
     → Seen (a .decrements) holds l m p xs ys o b → 8 ≤ p → m ≡ a .terms .products → a .terms .products ≤ 8 → r ≡ a .round
@@ -201,17 +185,6 @@ module _ (u : ℕ) (t x y : ℕ → ℕ) where
   }
 
 -- ---- of the book that is shown
-
-first-ext : (f g : ℕ → Bool) (n : ℕ) → ((i : ℕ) → i < n → f i ≡ g i) → firstUpTo f n ≡ firstUpTo g n
-first-ext f g zero h = refl
-first-ext f g (suc n) h = by (firstUpTo f n) (firstUpTo g n) (first-ext f g n (λ i l. h i (omega arith))) (h n (omega arith))
-  where
-    by : (q r : Pick) → q ≡ r → f n ≡ g n → better f never q n ≡ better g never r n
-    by q r e k = rw e (at r k)
-      where
-        at : (r : Pick) → f n ≡ g n → better f never r n ≡ better g never r n
-        at (At i) k = rw k
-        at Nobody k = rw k
 
 module _ {a z : Auction} {holds : List ℕ} {l : Lanes} {r : Outlook} (F : Foresees a holds l r) (W : Shows a z holds l)
     (few : a .terms .products ≤ 8) where
