@@ -20,8 +20,8 @@ use Rattle.rules.specs.Bid.{bidIn, withdrawnIn, exitOn, oneIf, reduction, incre
 use Rattle.rules.proofs.Lists.{all-ext}
 use Rattle.rules.proofs.Tests.{said, is-eqb}
 use Rattle.held.proofs.Found.{either, or-is}
-use Rattle.bidline.specs.declared.Kept.{Kept}
-use Rattle.bidline.specs.Lines.{isIncreased, keptWith, numberOf}
+use Rattle.bids.specs.declared.line.Kept.{Kept}
+use Rattle.bids.specs.Lines.{isIncreased, keptWith, numberOf}
 use Rattle.bids.specs.declared.Sums.{Sums}
 use Rattle.bids.specs.Tally.{summed, Small, Summed, KeptIn, Tallied, Numbers, onceEach}
 

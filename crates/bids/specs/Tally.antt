@@ -16,8 +16,8 @@ use Rattle.rules.specs.Bid.{bidIn, withdrawnIn, exitOn, oneIf, reduction, incre
 use Rattle.rules.specs.Layout.{loaded}
 use Rattle.book.specs.Lent.{Lent}
 use Rattle.held.specs.Ticks.{Ticks}
-use Rattle.bidline.specs.declared.Kept.{Kept}
-use Rattle.bidline.specs.Lines.{isIncreased}
+use Rattle.bids.specs.declared.line.Kept.{Kept}
+use Rattle.bids.specs.Lines.{isIncreased}
 use Rattle.bids.specs.declared.Sums.{Sums}
 
 -- a lent book, the products of it that ticked, and a bidder

@@ -1,5 +1,11 @@
 // "Rules of a bid" of document 01: a bid is judged by numbers 8 to 13, each over all products before the next.
 // Every sum is of u16 fields, at most 8 of them, and is taken in a u32 whatever the state and the card hold.
+mod line;
+
+pub use line::default_line;
+pub use line::increase;
+pub use line::less;
+pub use line::reduction;
 ghost use mathlib.Core.Path.{_≡_};
 ghost use mathlib.Core.Bool.{_&&_, cond};
 ghost use Prim.Native.Nat.{ℕ, _+_, _<_};
@@ -8,7 +14,7 @@ ghost use Rattle.rules.specs.Bid.{recordOf, onProduct, judged};
 ghost use Rattle.rules.specs.Layout.{loaded};
 ghost use Rattle.book.specs.Lent.{Lent};
 ghost use Rattle.bids.specs.Tally.{Judging, Numbering, Small, Tallied, Numbers, onceEach, summed};
-use bidline::Kept;
+use line::Kept;
 use rules::Line;
 use rules::Record;
 
@@ -30,11 +36,11 @@ impl Sums {
         requires { ⌜ Small 8 self ⌝ }
         ensures { λ x. ⌜ (x ≡ summed self r l) × ((m : ℕ) → Small m self → Small (m + 1) x) ⌝ }
     {
-        let increase = bidline::increase(r, l);
+        let increase = line::increase(r, l);
         Sums {
             going: self.going + r.going.0 as u32,
             bid: self.bid + l.tranches.0 as u32,
-            reduced: self.reduced + bidline::reduction(r, l),
+            reduced: self.reduced + line::reduction(r, l),
             increased: self.increased + increase,
             withdrawn: self.withdrawn + l.withdrawn.count.0 as u32,
             rising: self.rising + (increase > 0) as u32,
@@ -98,7 +104,7 @@ fn numbers_of(s: &[u8], b: usize, lines: [Line; 8]) -> [u8; 9]
     let mut p: usize = 0;
     while p < m {
         let l = lines[p];
-        let k = bidline::number(book::record(s, b * 8 + p), l);
+        let k = line::number(book::record(s, b * 8 + p), l);
         counts[k] = counts[k] + 1;
         p += 1;
     }
@@ -145,9 +151,9 @@ pub fn judge(s: &[u8], ticks: &[u8; 8], b: usize, lines: [Line; 8]) -> u8
     let y = t.kept;
     let f = book::free(s, b).0 as u32;
     // "Increases use free eligibility first; the others, s in all, are switches."
-    let switches = bidline::less(x.increased, f);
+    let switches = line::less(x.increased, f);
     // "Withdrawals over all products total w = sum of R - s."
-    let w = bidline::less(x.reduced, switches);
+    let w = line::less(x.reduced, switches);
     let fit = priorities_fit(s, b, lines, t, switches);
     let from13 = refuse(!fit, 13, 0);
     let from12 = refuse(!y.exits, 12, from13);

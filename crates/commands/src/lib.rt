@@ -7,14 +7,14 @@ mod start;
 
 ghost use Rattle.rules.specs.Uses.{Called};
 ghost use mathlib.Core.Path.{_≡_};
-use boxed::Kind;
-use boxed::is_wrong;
-use boxed::keep;
-use boxed::number_on;
 use layout::STATE;
 use rules::Answer;
 use rules::Count;
 pub use start::run;
+use store::Kind;
+use store::is_wrong;
+use store::keep;
+use store::number_on;
 use text::send;
 use view::refused;
 

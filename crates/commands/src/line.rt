@@ -2,9 +2,9 @@
 ghost use Rattle.rules.specs.Uses.{Called};
 use crate::auction;
 use crate::cards;
-use boxed::Kind;
 use check::same;
 use layout::STATE;
+use store::Kind;
 use text::Cursor;
 use text::line as say_line;
 use text::word;

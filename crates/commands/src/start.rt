@@ -1,7 +1,7 @@
 // The whole program: the box that its argument names, and the lines of standard input.
 use crate::shell::serve;
-use boxed::Kind;
 use layout::STATE;
+use store::Kind;
 use store::Loaded;
 use text::line;
 use text::put;

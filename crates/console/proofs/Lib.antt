@@ -1,3 +1,4 @@
+pub mod Opening
 pub mod Answering
 pub mod Counting
 pub mod Filing

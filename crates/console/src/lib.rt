@@ -2,22 +2,35 @@
 // crate rules, specs/Calls.antt: its answer and every byte that it may write, for every input. `Leaves` and `Gives` are the shape of a
 // contract; any two outcomes that have it coincide (rules/Settling: leaves-one, gives-one).
 ghost use Rattle.rules.specs.Answers.{Leaves, Gives};
-ghost use Rattle.rules.specs.Calls.{fileCall, countCall, calculateCall, cutbackCall, reportCall, resultCall};
+ghost use Rattle.rules.specs.Calls.{openCall, fileCall, countCall, calculateCall, cutbackCall, reportCall, resultCall, returnCall, readCall, writeCall, suggestedCall};
+use layout::STATE;
 use rules::Answer;
 use rules::Awarded;
 use rules::Calculation;
+use rules::CardRead;
 use rules::Count;
+use rules::Line;
 use rules::Reported;
+use rules::Settings;
 use rules::Tranches;
+use rules::Volume;
 
-// Open an auction: 1, 17, 15. Return the box: 1.
-pub use hire::open;
-pub use hire::return_box;
-
-// Apart from any auction, read a card to a bid: 29, 4, 5; write a bid as a card: 29, 4, 30; suggest a volume: 31.
-pub use apart::read;
-pub use apart::suggested_volume;
-pub use apart::write;
+// Open an auction: 1, 17, 15.
+pub fn open(s: &mut [u8], given: Settings) -> Answer
+    ensures { λ r. ⌜ Leaves (openCall (now (s .entry)) given) r (now (s .exit)) ⌝ }
+{
+    if s.len() != STATE {
+        return Answer::Refused(1);
+    }
+    if !state::is_zero(s) {
+        return Answer::Refused(17);
+    }
+    if !settings::settings_fit(given) {
+        return Answer::Refused(15);
+    }
+    storing::opened(s, settings::setup_of(given));
+    Answer::Done
+}
 
 // File a bid card: 1, 2, 3, 4, 5, 6 to 13.
 pub fn file(s: &mut [u8], card: &[u8]) -> Answer
@@ -93,4 +106,37 @@ pub fn result(s: &[u8]) -> Awarded
         return reports::refused_result(n);
     }
     reports::result_of(s)
+}
+
+// Return the box: 1; any state of the right length is left all zero, as first issued.
+pub fn return_box(s: &mut [u8]) -> Answer
+    ensures { λ r. ⌜ Leaves (returnCall (now (s .entry))) r (now (s .exit)) ⌝ }
+{
+    let long = s.len();
+    if long != STATE {
+        return Answer::Refused(1);
+    }
+    state::clear(s);
+    Answer::Done
+}
+
+// Apart from any auction, read a card to a bid: 29, 4, 5.
+pub fn read(card: &[u8], products: usize) -> CardRead
+    ensures { λ r. ⌜ Gives (readCall (now (card .entry)) products) r ⌝ }
+{
+    card::read(card, products)
+}
+
+// Apart from any auction, write a bid as a card: 29, 4, 30.
+pub fn write(room: &mut [u8], products: usize, bidder: u8, round: u16, lines: [Line; 8]) -> Answer
+    ensures { λ r. ⌜ Leaves (writeCall (now (room .entry)) products bidder round lines) r (now (room .exit)) ⌝ }
+{
+    card::write(room, products, bidder, round, lines)
+}
+
+// Apart from any auction, suggest a volume: 31.
+pub fn suggested_volume(bid: u32, ratio: u32) -> Volume
+    ensures { λ r. ⌜ Gives (suggestedCall bid ratio) r ⌝ }
+{
+    cutback::suggested_volume(bid, ratio)
 }

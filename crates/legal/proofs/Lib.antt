@@ -1,2 +1,3 @@
+pub mod Passing
 pub mod Limits
 pub mod Zero

@@ -1,5 +1,8 @@
 // Document 01, "Standing means": whether lent bytes are a state that may stand. What each clause says is in the crate rules,
 // specs/Legal.antt.
+mod holdings;
+mod phases;
+
 ghost use mathlib.Core.Path.{_≡_};
 ghost use mathlib.Core.Bool.{_&&_};
 ghost use Rattle.rules.specs.Count.{allUpTo};

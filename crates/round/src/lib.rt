@@ -36,16 +36,16 @@ fn bid_of(filed: bool, l: Line, tick: bool, before: Price, r: Record) -> Line
     if filed {
         return l;
     }
-    bidline::default_line(tick, before, r)
+    bids::default_line(tick, before, r)
 }
 
 // "Withdrawn counts say which reductions are withdrawals; the other reductions are switches."
 fn accept(r: Record, l: Line) -> Place
     ensures { λ x. ⌜ x ≡ accepted r l ⌝ }
 {
-    let reduced = bidline::reduction(r, l);
-    let moving = bidline::less(reduced, l.withdrawn.count.0 as u32);
-    let rise = bidline::increase(r, l);
+    let reduced = bids::reduction(r, l);
+    let moving = bids::less(reduced, l.withdrawn.count.0 as u32);
+    let rise = bids::increase(r, l);
     Place {
         holds: Record {
             going: Tranches(l.tranches.0),

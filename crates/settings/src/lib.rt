@@ -1,5 +1,9 @@
 // Whether the settings of an auction are within their limits: document 01, "Settings". The limits stand in the crate rules,
 // specs/Settings.antt.
+mod opening;
+
+pub use opening::settings_fit;
+pub use opening::setup_of;
 use rules::Decrements;
 use rules::Setup;
 ghost use mathlib.Core.Path.{_≡_};

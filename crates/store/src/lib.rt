@@ -1,4 +1,10 @@
 // A box's state in a file: read whole, and written anew under another name that is then put in place.
+mod boxed;
+
+pub use boxed::Kind;
+pub use boxed::is_wrong;
+pub use boxed::keep;
+pub use boxed::number_on;
 ghost use mathlib.Core.Path.{_≡_};
 ghost use Rattle.io.specs.Counts.{Counts};
 ghost use Prim.Native.Nat.{_<_};

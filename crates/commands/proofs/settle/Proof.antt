@@ -1,4 +1,4 @@
-use Rattle.boxed.proofs.Steps.{kept}
+use Rattle.store.proofs.Steps.{kept}
 use mathlib.Core.Logic.{inl}
 use mathlib.Core.Path.{refl}
 use borrow.Author.Needs.{needs}

@@ -1,5 +1,5 @@
 use lib.ListN.{length-map}
-use Rattle.boxed.proofs.Steps.{opened}
+use Rattle.store.proofs.Steps.{opened}
 use borrow.Author.Needs.{needs}
 use Rattle.commands.proofs.auction.open_on.Statement.{statement}
 use Rattle.commands.proofs.auction.open_on.Tie as tie

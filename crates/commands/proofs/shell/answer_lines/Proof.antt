@@ -1,5 +1,5 @@
 use Prim.Native.Nat.{_≤_, _-_}
-use Rattle.boxed.proofs.Steps.{stays, once, onward}
+use Rattle.store.proofs.Steps.{stays, once, onward}
 use Rattle.rules.specs.Uses.{Reached}
 use borrow.Author.Needs.{needs}
 use Rattle.commands.proofs.shell.answer_lines.Statement.{statement}

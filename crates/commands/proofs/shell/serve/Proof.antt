@@ -1,5 +1,5 @@
 use Rattle.rules.specs.Uses.{Reached}
-use Rattle.boxed.proofs.Steps.{stays, onward}
+use Rattle.store.proofs.Steps.{stays, onward}
 use lib.ListN.{length}
 use mathlib.Core.Path.{_≡_}
 use borrow.Author.Needs.{needs}

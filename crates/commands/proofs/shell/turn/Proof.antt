@@ -1,4 +1,4 @@
-use Rattle.boxed.proofs.Steps.{stays, once}
+use Rattle.store.proofs.Steps.{stays, once}
 use borrow.Author.Needs.{needs}
 use Rattle.commands.proofs.shell.turn.Statement.{statement}
 use Rattle.commands.proofs.shell.turn.Tie as tie

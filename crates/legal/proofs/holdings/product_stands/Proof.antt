@@ -1,0 +1,43 @@
+use mathlib.Core.Bool.{_&&_}
+use mathlib.Core.Path.{_∙_, ap, ap₂}
+use borrow.Author.Needs.{needs}
+use borrow.Author.Tests.{le-ltb, lt-ltb}
+use lib.Dec.{eqb, leb, ltb}
+use Rattle.held.proofs.Found.{implied}
+use Rattle.legal.proofs.holdings.product_stands.Statement.{statement}
+use Rattle.legal.proofs.holdings.product_stands.Tie as tie
+
+returns : tie.Need-returns
+returns c =
+    rw (
+      ← c .before .products .ensures .0,
+      le-ltb _ _ (c .if1 .taken),
+      c .before .before .before .before .amount .ensures,
+      c .before .before .before .before .before .price .ensures .1,
+      c .before .before .amount2 .ensures,
+      c .before .before .before .before2 .ensures .1,
+    )
+
+returns-2 : tie.Need-returns-2
+returns-2 c =
+    let start = c .before .before .before .before .before in
+    let d = start .before in
+    let q = d .before .before in
+    let h = q .before .before .before .before .before .pre in
+    let ex = q .before .before .amount .ensures ∙ q .before .before .before .price .ensures .1 in
+    let eq = q .amount2 .ensures ∙ q .before .before2 .ensures .1 in
+    let es = c .before .before .before .before .amount3 .ensures ∙ start .start .ensures .1 in
+    let fell = ap₂ ltb ex eq in
+    let over = ap₂ _&&_ (ap (λ x. eqb x 1) (c .before .before .before .phase .ensures)) (c .before .before .ticked .ensures) in
+    let some = ap (ltb 0) (h .0 .kept _ (h .1)) in
+    rw (← d .before .products .ensures .0, lt-ltb _ _ (d .if1 .left))
+    (ap₂ _&&_ (ap (leb 1) ex)
+    (ap₂ _&&_ (ap₂ leb ex eq)
+    (ap₂ _&&_ (ap₂ leb eq es) (ap₂ _&&_ (implied over fell) (implied some (ap₂ _&&_ fell (c .met .ensures)))))))
+
+pub product-stands-spec : {M : Type 1} → statement M
+product-stands-spec =
+    tie.close
+    (tie.spec (λ c κs. search needs) (λ c κs. search needs) (λ c κs. search needs) (λ c κs. search needs) (λ c κs. search needs) returns
+    (λ c κs. search needs) (λ c κs. search needs) (λ c κs. search needs) (λ c κs. search needs) (λ c. search needs) (λ c. search needs)
+    (λ c κs. search needs) returns-2)
