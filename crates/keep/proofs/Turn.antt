@@ -14,7 +14,7 @@ use Rattle.rules.specs.Accept.{every, leftOf}
 use Rattle.rules.specs.Keep.{short, keepStep, canKeep, kept, keepLoop, keptAll}
 use Rattle.rules.specs.Round.{drawn}
 use Rattle.rules.proofs.Sums.{best-found}
-use Rattle.draw.specs.Drawn.{Drawn}
+use Rattle.table.specs.Drawn.{Drawn}
 use Rattle.held.specs.Ticks.{isOne}
 use Rattle.table.specs.declared.Next.{Next}
 use Rattle.table.specs.Room.{targetOn}

@@ -48,7 +48,7 @@ pub fn calculate_number(s: &[u8], draw: &[u8]) -> u8
     if book::phase(s) != OPEN {
         return 3;
     }
-    if draw::draw_fits(draw, book::bidders(s)) {
+    if table::draw_fits(draw, book::bidders(s)) {
         return 0;
     }
     14

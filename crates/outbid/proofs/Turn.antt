@@ -20,7 +20,7 @@ use Rattle.rules.specs.Accept.{placeAt, column, heldOf, keptOf}
 use Rattle.rules.specs.Outbid.{outbid, whileOver, outbidStep, over, outbidLoop, outbidAll}
 use Rattle.rules.specs.Round.{drawn}
 use Rattle.rules.proofs.Sums.{best-found}
-use Rattle.draw.specs.Drawn.{Drawn}
+use Rattle.table.specs.Drawn.{Drawn}
 use Rattle.held.specs.Ticks.{isOne}
 use Rattle.table.specs.declared.Next.{Next}
 use Rattle.table.specs.Next.{nobody}

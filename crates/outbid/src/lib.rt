@@ -10,10 +10,10 @@ ghost use Rattle.rules.specs.Held.{standing, above};
 ghost use Rattle.rules.specs.Accept.{changed};
 ghost use Rattle.rules.specs.Outbid.{deemIf, deemedUpTo, outbid, outbidAll};
 ghost use Rattle.rules.specs.Round.{drawn};
-ghost use Rattle.draw.specs.Drawn.{Drawn};
+ghost use Rattle.table.specs.Drawn.{Drawn};
 ghost use Rattle.held.specs.Ticks.{isOne};
 ghost use Rattle.table.specs.Next.{nobody};
-ghost use Rattle.table.specs.Room.{Room, targetOn};
+ghost use Rattle.table.specs.Room.{Room, Prepared, targetOn};
 ghost use Rattle.table.specs.Rows.{placesIn};
 ghost use Rattle.outbid.specs.Loss.{Empty, Summed, AsMuch, lessOf, overBy, Looking, Timed, Asked, Soonest, Lost};
 use rules::Pick;
@@ -159,7 +159,7 @@ fn next_turn(ps: &[[u32; WIDTH]; 256], order: &[u8], p: usize, bidders: usize, k
     };
     let mut i: usize = 0;
     while i < bidders {
-        let b = draw::bidder_at(order, i, bidders);
+        let b = table::bidder_at(order, i, bidders);
         let r = table::record(ps, b * 8 + p);
         let turn = turn_of(r);
         best = best.sooner(i, turn);
@@ -196,7 +196,7 @@ fn lose(ps: &[[u32; WIDTH]; 256], order: &[u8], p: usize, bidders: usize, known:
             next: s,
         };
     }
-    let b = draw::bidder_at(order, s.at, bidders);
+    let b = table::bidder_at(order, s.at, bidders);
     let at = b * 8 + p;
     let l = table::place_at(ps, at);
     if s.turn == SWITCH {
@@ -242,7 +242,7 @@ pub fn outbid_all(
     products: usize,
     bidders: usize,
 ) -> Freed
-    requires { ⌜ (products ≤ 8) × (Drawn bidders (now order) × Room (placesIn (now ps))) ⌝ }
+    requires { ⌜ Prepared products bidders (now order) (placesIn (now ps)) ⌝ }
     ensures { λ r. ⌜ outbid (placesIn (now (ps .exit))) (r .free) (r .count) ≡ outbidAll products bidders (targetOn (now (targets .entry))) (isOne (now (ticks .entry))) (drawn (now (order .entry))) (placesIn (now (ps .entry))) (replicate 32 (tranches 0)) ⌝ }
 {
     let mut held = [0u32; 8];

@@ -20,7 +20,7 @@ use Rattle.rules.specs.Accept.{at, nowhere, placeAt, accepted, acceptedAll}
 use Rattle.rules.specs.Round.{drawn, drawFits}
 use Rattle.rules.proofs.Sums.{and-left, and-right}
 use Rattle.rules.proofs.Lists.{all-take, list-at, list-long}
-use Rattle.draw.specs.Drawn.{Drawn}
+use Rattle.table.specs.Drawn.{Drawn}
 use Rattle.held.specs.Ticks.{isOne}
 use Rattle.table.specs.Room.{Fits, Room}
 use Rattle.rules.specs.Stands.{Stands}

@@ -28,7 +28,7 @@ use Rattle.rules.proofs.Lists.{list-at}
 use Rattle.rules.proofs.Parts.{prices-ext, free-anew, free-setup}
 use Rattle.book.specs.Lent.{Counts}
 use Rattle.held.specs.Ticks.{Ticks}
-use Rattle.draw.specs.Drawn.{Drawn}
+use Rattle.table.specs.Drawn.{Drawn}
 use Rattle.held.specs.Ticks.{isOne}
 use Rattle.table.specs.Room.{targetOn, Held}
 use Rattle.storing.specs.Written.{amountAt}

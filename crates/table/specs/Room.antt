@@ -6,6 +6,7 @@ use lib.ListN.{getD, length}
 use Rattle.rules.specs.declared.Place.{Place}
 use Rattle.rules.specs.Held.{goingIn, deniedIn, retainedIn}
 use Rattle.rules.specs.Accept.{placeAt, column, heldOf, leavingOf, movingOf, riseOf}
+use Rattle.table.specs.Drawn.{Drawn}
 
 -- no count of a place can pass its 16 bits, and every increase is part of what is at the going price
 pub record Fits (l : Place) : Type 0 where
@@ -16,6 +17,12 @@ pub record Fits (l : Place) : Type 0 where
 pub record Room (ps : List Place) : Type 0 where
   pub long : length ps ≡ 256
   pub each : (k : ℕ) → Fits (placeAt ps k)
+
+-- what steps 2 and 4 are given
+pub record Prepared (products bidders : ℕ) (order : List ℕ) (ps : List Place) : Type 0 where
+  pub few : products ≤ 8
+  pub draw : Drawn bidders order
+  pub room : Room ps
 
 -- a number for each product: its target
 abbrev pub targetOn : List ℕ → ℕ → ℕ

@@ -1,5 +1,9 @@
 // The places of a round as rows of numbers, lent: no copy of the table is made. The place of bidder b on product p stands in row
 // b * 8 + p.
+mod draw;
+
+pub use draw::bidder_at;
+pub use draw::draw_fits;
 ghost use mathlib.Core.Path.{_≡_};
 ghost use Prim.Native.Nat.{_≤_, _<_};
 ghost use lib.ListN.{set};

@@ -17,7 +17,11 @@ keep-all-requires c κs =
     let a = m .before .before .before .before in
     let em = m .products .ensures .0 in
     let en = n .bidders .ensures .0 in
-    (few _ _ (a .pre) em en, (drawn-by _ _ (a .pre) em en, subst Room (sym (p .accept-all .ensures)) (room-accepted _ (a .pre .stands))))
+    record {
+      few = few _ _ (a .pre) em en;
+      draw = drawn-by _ _ (a .pre) em en;
+      room = subst Room (sym (p .accept-all .ensures)) (room-accepted _ (a .pre .stands));
+    }
 
 deem-all-requires : tie.Need-deem-all-requires
 deem-all-requires c κs =
@@ -39,7 +43,7 @@ outbid-all-requires c κs =
     let a = m .before .before .before .before in
     let em = m .products .ensures .0 in
     let en = n .bidders .ensures .0 in
-    (few _ _ (a .pre) em en, (drawn-by _ _ (a .pre) em en, d .deem-all .ensures .1))
+    record { few = few _ _ (a .pre) em en; draw = drawn-by _ _ (a .pre) em en; room = d .deem-all .ensures .1 }
 
 settle-requires : tie.Need-settle-requires
 settle-requires c κs =

@@ -6,7 +6,7 @@ ghost use lib.Dec.{eqb};
 ghost use lib.ListN.{length};
 ghost use Rattle.rules.specs.Count.{firstUpTo, isAt};
 ghost use Rattle.rules.specs.Round.{drawn, drawFits};
-ghost use Rattle.draw.specs.Drawn.{Drawn};
+ghost use Rattle.table.specs.Drawn.{Drawn};
 
 // Bidder b stands among the first entries, as many as there are bidders.
 fn is_drawn(order: &[u8], bidders: usize, b: usize) -> bool

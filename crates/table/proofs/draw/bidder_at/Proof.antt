@@ -1,6 +1,6 @@
 use native.Mathlib.Omega.{arith}
-use Rattle.draw.proofs.bidder_at.Statement.{statement}
-use Rattle.draw.proofs.bidder_at.Tie as tie
+use Rattle.table.proofs.draw.bidder_at.Statement.{statement}
+use Rattle.table.proofs.draw.bidder_at.Tie as tie
 
 shared-slice-read-result : tie.Need-shared-slice-read-result
 shared-slice-read-result c = omega (arith, c .before .pre .1 .long)

@@ -10,8 +10,8 @@ use Rattle.rules.proofs.Sums.{first-stays, first-here, first-not}
 use Rattle.rules.specs.declared.Pick.the-variants.{Nobody}
 use Rattle.rules.specs.Count.{firstUpTo, isAt}
 use Rattle.rules.specs.Round.{drawn}
-use Rattle.draw.proofs.is_drawn.Statement.{statement}
-use Rattle.draw.proofs.is_drawn.Tie as tie
+use Rattle.table.proofs.draw.is_drawn.Statement.{statement}
+use Rattle.table.proofs.draw.is_drawn.Tie as tie
 
 abbrev Inv-loop : tie.InvT-loop
 Inv-loop order bidders b i₀ i = (i ≤ bidders) × (firstUpTo (λ i. eqb (drawn order i) b) i ≡ Nobody)

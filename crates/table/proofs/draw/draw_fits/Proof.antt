@@ -8,8 +8,8 @@ use borrow.Author.Needs.{needs}
 use lib.Dec.{ltb, eqb}
 use Rattle.rules.specs.Count.{allUpTo, firstUpTo, isAt}
 use Rattle.rules.specs.Round.{drawn}
-use Rattle.draw.proofs.draw_fits.Statement.{statement}
-use Rattle.draw.proofs.draw_fits.Tie as tie
+use Rattle.table.proofs.draw.draw_fits.Statement.{statement}
+use Rattle.table.proofs.draw.draw_fits.Tie as tie
 
 abbrev Inv-loop : tie.InvT-loop
 Inv-loop order bidders fit₀ all₀ b₀ fit all b =
