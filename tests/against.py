@@ -8,6 +8,7 @@ Ten sessions, or ten boxes, are a test; the last line is `N passed, M failed`. T
 runs it by tests/second.
 """
 import collections
+import glob
 import os
 import random
 import subprocess
@@ -45,12 +46,12 @@ def opening(rnd):
         percent += rnd.choice([1, 5, 20, 50, 100, 9000])
         if percent > 60000:
             break
-    words = ['open', rnd.choice(['kwh', 'mwday']), statewide, 'product']
-    for t in zip(targets, caps, prices):
-        words += t
-    words += ['bidder'] + eligible + ['row']
-    for r in rows:
-        words += r
+    words = ['open', rnd.choice(['kwh', 'mwday']), statewide]
+    often = rnd.choice([0, 0, 0, .5, 1])  # how often the key word stands before a further group
+    for key, groups in (('product', list(zip(targets, caps, prices))), ('bidder', [(e,) for e in eligible]), ('row', rows)):
+        for k, group in enumerate(groups):
+            words += [key] * (k == 0 or rnd.random() < often)
+            words += group
     return ' '.join(map(str, words))
 
 
@@ -189,6 +190,12 @@ def spoiled_text(rnd, line):
     return ' '.join(words)
 
 
+def folded(rnd, line):
+    """The same line over several lines, each but the last with a backslash at its end; a remark is not gone on with."""
+    words = line.split(' ')
+    return words[0] + ''.join(rnd.choice([' ', ' ', ' \\\n', '\\\n  ', ' \\\r\n']) + word for word in words[1:])
+
+
 def some_card(rnd, n):
     lines = [[rnd.choice(NUMBERS) % 256, rnd.randrange(3), rnd.choice(NUMBERS) % 131072, rnd.randrange(8)] for _ in range(n)]
     return model.write_card(n, rnd.randrange(32), rnd.choice([0, 1, 2, 3, 4095]), model.groups(sum(lines, [])))
@@ -215,7 +222,8 @@ def loose_line(rnd):
         return 'file ' + bytes(rnd.randrange(256) for _ in range(rnd.choice([0, 1, 7, 12, 16, 21, 39, 40, 500, 1021]))).hex()
     if what == 5:
         return rnd.choice(['', '   ', '# remark', '  # remark', 'help', 'nothing', 'open', 'bid', 'file', 'read', 'write', 'count 0',
-                           'cutback', 'suggest', 'suggest 1'])
+                           'cutback', 'suggest', 'suggest 1', 'undo', 'undo 1', 'bail', 'bail off', 'bail on 1', 'quit 1', 'exit now',
+                           '# remark \\\ncount', 'count\rcount', 'show\\ ', '\\ '])
     if what == 6:
         line = 'suggest %d %d' % (rnd.choice(NUMBERS + [51199, 51200, 51201, rnd.randrange(51201), rnd.randrange(51201)]),
                                   rnd.choice(NUMBERS + [100, 125, 133, 150, rnd.randint(1, 400), rnd.randint(1, 400)]))
@@ -229,10 +237,12 @@ def loose_line(rnd):
 def session(rnd, desk, lines, answers, states):
     """One hire of the box: appends its commands with their answers, and some states on the way; `desk` is the model, which plays along."""
     def say(line):
+        if rnd.random() < .02:
+            line = folded(rnd, line)
         lines.append(line)
         if rnd.random() < .03:
             states.append(desk.state)
-        answers.append(desk.answer(line.encode()))
+        answers.append(desk.answers(line.encode()))
         return answers[-1]
     say('return')
     while say(opening(rnd)) != ['ok']:
@@ -297,8 +307,9 @@ def session(rnd, desk, lines, answers, states):
 
 
 def run_desk(text, *args):
-    done = subprocess.run([DESK, *args], input=text, stdout=subprocess.PIPE, check=True)
-    return done.stdout
+    """What the desk writes, and its status."""
+    done = subprocess.run([DESK, *args], input=text, stdout=subprocess.PIPE)
+    return done.stdout, done.returncode
 
 
 def differ(lines, answers, got):
@@ -330,8 +341,10 @@ def play(sessions, seed):
         last = min(first + 10, sessions)
         for _ in range(first, last):
             session(rnd, desk, lines, answers, states)
-        got = run_desk('\n'.join(lines).encode() + rnd.choice([b'\n', b'']))
+        got, status = run_desk('\n'.join(lines).encode() + rnd.choice([b'\n', b'']))
         wrong = [] if got == ''.join(s + '\n' for a in answers for s in a).encode() else [differ(lines, answers, got)]
+        if status != desk.status:
+            wrong.append('status %d, not %d' % (status, desk.status))
         results.append(told('second model: sessions %d to %d, %d lines' % (first + 1, last, len(lines)), wrong))
         for line, said in zip(lines, answers):
             if said and line.split() and line.split()[0].encode() in model.COMMANDS:
@@ -341,7 +354,7 @@ def play(sessions, seed):
 
 
 LOOK = ['count', 'report 0', 'report 1', 'result', 'show', 'calculate 0', 'calculate 0 1', 'calculate 1 0 2', 'return', 'file 00',
-        'cutback 1 1']
+        'cutback 1 1', 'undo', 'undo']
 
 
 def spoiled_state(rnd, state):
@@ -369,6 +382,8 @@ def boxes(many, seed, states):
         ours, theirs = os.path.join(folder, 'model'), os.path.join(folder, 'desk')
         for k in range(many):
             state = spoiled_state(rnd, rnd.choice(states))
+            for left in glob.glob(theirs + '.*'):  # what an earlier box had beside it
+                os.unlink(left)
             for path in (ours, theirs):
                 with open(path, 'wb') as file:
                     file.write(state)
@@ -381,12 +396,14 @@ def boxes(many, seed, states):
             if len(state) == model.LENGTH and 1 <= model.load(state).products <= 8 and rnd.random() < .6:
                 lines[1:1] = [cutback(rnd, model.load(state)), 'show']
             desk = model.Desk(ours)
-            answers = [desk.answer(line.encode()) for line in lines]
+            answers = [desk.answers(line.encode()) for line in lines]
             want = ''.join(s + '\n' for a in answers for s in a).encode()
-            got = run_desk('\n'.join(lines).encode() + b'\n', theirs)
+            got, status = run_desk('\n'.join(lines).encode() + b'\n', theirs)
             stood += not want.startswith((b'refused 2', b'refused 1'))
             if got != want:
                 wrong.append(('box %d' % (k + 1), lines) + differ(lines, answers, got))
+            if status != desk.status:
+                wrong.append(('box %d' % (k + 1), lines, 'status %d, not %d' % (status, desk.status)))
             with open(ours, 'rb') as one, open(theirs, 'rb') as two:
                 if one.read() != two.read():
                     wrong.append(('box %d' % (k + 1), lines, 'the bytes differ'))

@@ -514,6 +514,23 @@ class Wrong(Exception):
         self.text = 'error ' + what + (', column %d' % (at + 1) if at is not None else '')
 
 
+def is_remark(line):
+    return line.lstrip(bytes(range(33))).startswith(b'#')
+
+
+def lines_of(text):
+    """The lines of an input: each ends at a line feed or a carriage return, and one that is no remark goes on after a backslash there."""
+    lines, line = [], b''
+    for part, end in re.findall(rb'([^\r\n]*)(\r\n|\r|\n|\Z)', text):
+        line += part
+        if part.endswith(b'\\') and end and not is_remark(line):
+            line = line[:-1] + b' ' * (1 + len(end))
+        else:
+            lines.append(line)
+            line = b''
+    return lines + [line]
+
+
 class Reader:
     def __init__(self, line):
         self.words = [(m.start(), m.group()) for m in re.finditer(rb'[^\x00-\x20]+', line)]
@@ -536,19 +553,25 @@ class Reader:
     def is_number(self):
         return not self.at_end() and re.fullmatch(rb'[0-9]+', self.words[self.next][1]) is not None
 
-    def group(self, most, size, what):
-        """1 to `most` groups of `size` numbers, up to the first word that is none."""
-        out = []
-        while self.is_number() and len(out) < most * size:
-            out.append(self.number())
-        if not out or len(out) % size:
-            raise Wrong(what + '; a number is missing', self.at())
-        return [out[k:k + size] for k in range(0, len(out), size)]
+    def instead(self, what):
+        """What is wrong with the next word, unless that was meant as a number and is none."""
+        if not self.at_end() and not self.is_number() and self.words[self.next][1][:1] in b'0123456789.,-+$':
+            what = 'not a number here'
+        return Wrong(what, self.at())
 
-    def key(self, word, after=''):
-        at = self.at()
-        if self.at_end() or self.word() != word.encode():
-            raise Wrong('the word %s belongs here%s' % (word, after), at)
+    def group(self, key, most, size, what, after=''):
+        """A key word and 1 to `most` groups of `size` numbers, up to the first word that is none; the key word may stand before each."""
+        out = []
+        while len(out) < most * size and not self.at_end() and self.words[self.next][1] == key.encode():
+            self.next += 1
+            before = len(out)
+            while self.is_number() and len(out) < most * size:
+                out.append(self.number())
+            if len(out) == before or len(out) % size:
+                raise self.instead(what + '; a number is missing')
+        if not out:
+            raise self.instead('the word %s belongs here%s' % (key, after))
+        return [out[k:k + size] for k in range(0, len(out), size)]
 
     def number(self):
         if self.at_end():
@@ -611,6 +634,9 @@ class Desk:
     def __init__(self, path=None):
         self.path = path
         self.state = self.in_file()
+        self.before = None  # the state before the last calculation or return, where there is a file
+        self.bails = self.ended = False
+        self.status = 0
 
     def in_file(self):
         if self.path is None or not os.path.lexists(self.path):
@@ -618,29 +644,51 @@ class Desk:
         with open(self.path, 'rb') as file:
             return file.read()
 
-    def keep(self, state):
+    def keep(self, state, *before):
+        """Keeps a state, and with a file what `undo` is to put back from now on; without one that stays."""
         if self.path is not None:
             if self.in_file() != self.state:
                 raise Wrong('the box file was changed by another program; nothing is changed')
-            new = self.path + '.new'
-            try:
-                with open(new, 'wb') as file:
-                    file.write(state)
-                os.rename(new, self.path)
-            except OSError as e:
-                if os.path.isfile(new):
-                    os.unlink(new)
-                raise Wrong('the box was not written: %s; nothing is changed' % e.strerror)
+            if state != self.state:
+                self.write_box(state)
+                self.before = before[0] if before else self.before
         self.state = state
+
+    def write_box(self, state):
+        new = self.path + '.new'
+        try:
+            with open(new, 'wb') as file:
+                file.write(state)
+            os.rename(new, self.path)
+        except OSError as e:
+            if os.path.isfile(new):
+                os.unlink(new)
+            raise Wrong('the box was not written: %s; nothing is changed' % e.strerror)
+
+    def answers(self, text):
+        """The lines of the answers to all lines of a text."""
+        out = []
+        for line in lines_of(text):
+            if self.ended:
+                break
+            said = self.answer(line)
+            if said and not said[0].startswith('ok'):
+                self.status = 1
+                self.ended = self.bails
+            out += said
+        return out
 
     def answer(self, line):
         """The lines of the answer."""
+        r = Reader(line)
+        if r.at_end() or is_remark(line):
+            return []
         if len(line) > 2048:
             return ['error the line is longer than 2048 bytes']
-        r = Reader(line)
-        if r.at_end() or line[r.at():r.at() + 1] == b'#':
-            return []
         try:
+            strange = re.search(rb'[\x00-\x08\x0a-\x1f\x7f]', line)
+            if strange:
+                raise Wrong('a control character, byte %d' % line[strange.start()], strange.start())
             at, word = r.at(), r.word()
             command = COMMANDS.get(word)
             if command is None:
@@ -657,12 +705,9 @@ class Desk:
             raise Wrong('the unit is kwh or mwday', unit)
         a.unit = (b'kwh', b'mwday').index(word)
         a.statewide = r.number()
-        r.key('product')
-        products = r.group(PRODUCTS, 3, 'a product has a target, a cap and a starting price')
-        r.key('bidder', ', after 1 to 8 products')
-        bidders = r.group(BIDDERS, 1, 'a bidder has an initial eligibility')
-        r.key('row', ', after 1 to 32 bidders')
-        rows = r.group(ROWS, 2, 'a row has a percentage and a decrement')
+        products = r.group('product', PRODUCTS, 3, 'a product has a target, a cap and a starting price')
+        bidders = r.group('bidder', BIDDERS, 1, 'a bidder has an initial eligibility', ', after 1 to 8 products')
+        rows = r.group('row', ROWS, 2, 'a row has a percentage and a decrement', ', after 1 to 32 bidders')
         r.done()
         if len(self.state) != LENGTH:
             raise Refused(1)
@@ -677,7 +722,7 @@ class Desk:
             pass
         if not settings_fit(a):
             raise Refused(15)
-        self.keep(store(a))
+        self.keep(store(a), None)
         return ['ok']
 
     def file_card(self, card):
@@ -721,7 +766,7 @@ class Desk:
         if sorted(draw) != list(range(a.bidders)):
             raise Refused(14)
         counts = calculate(a, draw)
-        self.keep(store(a))
+        self.keep(store(a), self.state)
         return ['ok kept %d outbid %d' % counts]
 
     def cutback(self, r):
@@ -789,7 +834,35 @@ class Desk:
         r.done()
         if len(self.state) != LENGTH:
             raise Refused(1)
-        self.keep(bytes(LENGTH))
+        self.keep(bytes(LENGTH), self.state)
+        return ['ok']
+
+    def undo(self, r):
+        r.done()
+        if self.path is None:
+            raise Wrong('nothing to undo: a copy is kept beside a box file only')
+        if len(self.state) != LENGTH:
+            raise Refused(1)
+        if self.before in (None, self.state):
+            raise Wrong('nothing to undo: no calculation or return since the last undo or opening')
+        try:
+            looked_at(self.before)
+        except Refused:
+            raise Wrong('nothing is undone: the copy beside the box is no state of a box')
+        self.keep(self.before, None)
+        return ['ok']
+
+    def bail(self, r):
+        at = r.at()
+        if r.at_end() or (word := r.word()) not in (b'on', b'off'):
+            raise Wrong('bail is on or off', at)
+        r.done()
+        self.bails = word == b'on'
+        return ['ok']
+
+    def quit(self, r):
+        r.done()
+        self.ended = True
         return ['ok']
 
     def read(self, r):
@@ -812,7 +885,8 @@ class Desk:
 COMMANDS = {
     b'open': Desk.open, b'file': Desk.file, b'bid': Desk.bid, b'count': Desk.count, b'calculate': Desk.calculate,
     b'suggest': Desk.suggest, b'cutback': Desk.cutback, b'report': Desk.report, b'result': Desk.result, b'show': Desk.show,
-    b'return': Desk.give_back, b'read': Desk.read, b'write': Desk.write, b'help': Desk.help,
+    b'return': Desk.give_back, b'undo': Desk.undo, b'read': Desk.read, b'write': Desk.write, b'bail': Desk.bail, b'quit': Desk.quit,
+    b'exit': Desk.quit, b'help': Desk.help,
 }
 
 HELP = [
@@ -833,8 +907,11 @@ HELP = [
     '  result   awards and prices of a closed auction',
     '  show   the whole state',
     '  return   return the box',
+    '  undo   put back the state before the last calculation or return, once',
     '  read N HEX   read a card of N products',
     "  write N B R T W X P ..   write bidder B's card of round R for N products",
+    '  bail on, bail off   end at the first line that is not answered ok, or go on',
+    '  quit   end; so does exit',
     '  help   these lines',
 ]
 
@@ -844,11 +921,11 @@ def main():
         desk = Desk(sys.argv[1] if len(sys.argv) > 1 else None)
     except OSError as e:
         print('error the box cannot be read: %s' % e.strerror)
-        return
-    for line in sys.stdin.buffer:
-        for said in desk.answer(line[:-1] if line.endswith(b'\n') else line):
-            print(said, flush=True)
+        return 2
+    for said in desk.answers(sys.stdin.buffer.read()):
+        print(said)
+    return desk.status
 
 
 if __name__ == '__main__':
-    main()
+    sys.exit(main())

@@ -9,7 +9,7 @@ use Rattle.text.specs.declared.number.Take.the-variants as take
 use Rattle.text.specs.Number.{takeAt}
 use Rattle.asked.specs.declared.numbers.List.the-variants.{Found, TooLarge}
 use Rattle.asked.specs.declared.numbers.List as list
-use Rattle.asked.specs.Typed.{Typed, typed, typedFrom, limitOf, typedAt}
+use Rattle.asked.specs.Typed.{Typed, typed, typedFrom, limitOf, typedAfter}
 
 module _ (s : List ℕ) (c : Cursor) (n top : ℕ) (out : List ℕ) where
   pub one-more : (v : ℕ) (next : Cursor) → n < top → takeAt s (c .at) ≡ take.Number v next
@@ -35,12 +35,9 @@ module _ (s : List ℕ) (c : Cursor) (n top : ℕ) (out : List ℕ) where
   at-limit h = let f : top - n ≡ 0 = omega arith in rw f
 
 -- what is found where the reading stops is the answer
-pub answered : (s : List ℕ) (c : Cursor) (most top : ℕ) (out : List ℕ) (f : list.List) (ns : List ℕ) {t : Typed} → top ≡ limitOf most
-    → t ≡ typedFrom s c 0 top out → t ≡ typed f ns → (f ≡ typedAt s c most out .found) × (ns ≡ typedAt s c most out .numbers)
-unfolding typedAt
-answered s c most top out f ns l e g =
-    let h : typed f ns ≡ typedFrom s c 0 (limitOf most) out = sym g ∙ e ∙ ap (λ k. typedFrom s c 0 k out) l in
+pub answered : (s : List ℕ) (c : Cursor) (n most top : ℕ) (out : List ℕ) (f : list.List) (ns : List ℕ) {t : Typed} → top ≡ limitOf most
+    → t ≡ typedFrom s c n (top - n) out → t ≡ typed f ns → (f ≡ typedAfter s c n most out .found) × (ns ≡ typedAfter s c n most out .numbers)
+unfolding typedAfter
+answered s c n most top out f ns l e g =
+    let h : typed f ns ≡ typedFrom s c n (limitOf most - n) out = sym g ∙ e ∙ ap (λ k. typedFrom s c n (k - n) out) l in
     (ap (λ (x : Typed). x .found) h, ap (λ (x : Typed). x .numbers) h)
-
-pub begun : (s : List ℕ) (c : Cursor) (top : ℕ) (out : List ℕ) → typedFrom s c 0 (top - 0) out ≡ typedFrom s c 0 top out
-begun s c top out = let e : top - 0 ≡ top = omega arith in rw e

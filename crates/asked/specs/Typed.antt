@@ -1,7 +1,7 @@
 -- The numbers that stand one after the other in a line, and the array that they are put into. Assumes nothing.
 use mathlib.Core.Bool.{cond}
 use mathlib.Core.List.{List}
-use Prim.Native.Nat.{ℕ, zero, suc, _+_}
+use Prim.Native.Nat.{ℕ, zero, suc, _+_, _-_}
 use lib.ListN.{set}
 use lib.Dec.{ltb}
 use Rattle.text.specs.declared.Cursor.{Cursor}
@@ -38,5 +38,9 @@ typedFrom s c n (suc left) out =
 abbrev pub limitOf : ℕ → ℕ
 limitOf most = cond (ltb most 40) most 40
 
-unfoldable pub typedAt : List ℕ → Cursor → ℕ → List ℕ → Typed
-typedAt s c most out = typedFrom s c 0 (limitOf most) out
+-- n numbers are in the array; with them at most `most`, or as many as it has places for
+unfoldable pub typedAfter : List ℕ → Cursor → ℕ → ℕ → List ℕ → Typed
+typedAfter s c n most out = typedFrom s c n (limitOf most - n) out
+
+abbrev pub typedAt : List ℕ → Cursor → ℕ → List ℕ → Typed
+typedAt s c most out = typedAfter s c 0 most out

@@ -3,15 +3,18 @@ ghost use mathlib.Core.Path.{_≡_};
 ghost use Rattle.rules.specs.Count.{listOf};
 ghost use Rattle.asked.specs.Asked.{lineAskedAt};
 ghost use Rattle.asked.specs.Typed.{typedAt};
+use crate::numbers::Numbers;
 use crate::numbers::all_numbers;
 use crate::numbers::ends;
 use crate::numbers::limit;
 use crate::numbers::one_byte;
 use crate::numbers::other_count;
 use crate::numbers::two_bytes;
+use crate::numbers::unless;
 use rules::Line;
 use rules::Lot;
 use rules::Tranches;
+use text::ANSWER;
 use text::Cursor;
 use text::Hex;
 use text::take_hex;
@@ -40,47 +43,45 @@ pub fn lines_of(numbers: [u32; 40]) -> [Line; 8]
     list
 }
 
-// The groups of four up to the end of a line, 8 at most: how many there are, or 9 where something is wrong and was said.
-pub fn groups(line: &[u8], c: Cursor, out: &mut [u32; 40]) -> usize
-    ensures { λ _. ⌜ now (out .exit) ≡ typedAt (now (line .entry)) c 32 (now (out .entry)) .numbers ⌝ }
+// The groups of four up to the end of a line, 8 at most.
+pub fn groups(line: &[u8], c: Cursor, numbers: &mut [u32; 40], out: &mut [u8; ANSWER]) -> Numbers
+    ensures { λ _. ⌜ now (numbers .exit) ≡ typedAt (now (line .entry)) c 32 (now (numbers .entry)) .numbers ⌝ }
 {
-    let n = all_numbers(line, c, 32, out);
-    if 32 < n {
-        return 9;
+    match all_numbers(line, c, 32, numbers, out) {
+        Numbers::Found(n) => {
+            if n % 4 == 0 {
+                return Numbers::Found(n / 4);
+            }
+            Numbers::Said(wrong(
+                out,
+                b"a product has tranches, withdrawn, exit and priority; a number is missing",
+                line.len(),
+            ))
+        }
+        Numbers::Said(k) => Numbers::Said(k),
     }
-    if n % 4 == 0 {
-        return n / 4;
-    }
-    wrong(
-        b"a product has tranches, withdrawn, exit and priority; a number is missing",
-        line.len(),
-    );
-    9
 }
 
 // The groups are those of more or fewer products than the auction has.
-pub fn other_groups(line: &[u8], c: Cursor, products: usize) {
+pub fn other_groups(line: &[u8], c: Cursor, products: usize, out: &mut [u8; ANSWER]) -> usize {
     other_count(
         line,
         c,
         limit(products) as usize * 4,
         b"a bid in this auction has four numbers for each of ",
         products,
-    );
+        out,
+    )
 }
 
-// A card up to the end of a line: how many bytes it has, or 1025 where something is wrong and was said.
-pub fn card(line: &[u8], c: Cursor, out: &mut [u8; 1024]) -> usize {
-    match take_hex(line, c, out) {
-        Hex::Bytes(n, next) => {
-            if ends(line, next) {
-                return n;
-            }
-        }
-        Hex::Uneven(p) => wrong(b"an odd number of hexadecimal digits", p),
-        Hex::Long(p) => wrong(b"a card of more than 1024 bytes", p),
-        Hex::Strange(p) => wrong(b"not a hexadecimal digit", p),
-        Hex::End => wrong(b"a card in hexadecimal digits is missing", line.len()),
-    }
-    1025
+// A card up to the end of a line: how many bytes it has.
+pub fn card(line: &[u8], c: Cursor, bytes: &mut [u8; 1024], out: &mut [u8; ANSWER]) -> Numbers {
+    let said = match take_hex(line, c, bytes) {
+        Hex::Bytes(n, next) => return unless(ends(line, next, out), n),
+        Hex::Uneven(p) => wrong(out, b"an odd number of hexadecimal digits", p),
+        Hex::Long(p) => wrong(out, b"a card of more than 1024 bytes", p),
+        Hex::Strange(p) => wrong(out, b"not a hexadecimal digit", p),
+        Hex::End => wrong(out, b"a card in hexadecimal digits is missing", line.len()),
+    };
+    Numbers::Said(said)
 }

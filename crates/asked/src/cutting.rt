@@ -2,11 +2,13 @@
 ghost use mathlib.Core.Path.{_≡_};
 ghost use Rattle.asked.specs.Asked.{revisedAsked};
 ghost use Rattle.asked.specs.Typed.{typedAt};
+use crate::numbers::Numbers;
 use crate::numbers::all_numbers;
 use crate::numbers::limit;
 use crate::numbers::other_count;
 use crate::numbers::two_bytes;
 use rules::Tranches;
+use text::ANSWER;
 use text::Cursor;
 use text::wrong;
 
@@ -34,31 +36,33 @@ pub fn revised_of(numbers: [u32; 40]) -> Revised
     Revised { targets, caps }
 }
 
-// The pairs up to the end of a line, 8 at most: how many there are, or 9 where something is wrong and was said.
-pub fn pairs(line: &[u8], c: Cursor, out: &mut [u32; 40]) -> usize
-    ensures { λ _. ⌜ now (out .exit) ≡ typedAt (now (line .entry)) c 16 (now (out .entry)) .numbers ⌝ }
+// The pairs up to the end of a line, 8 at most.
+pub fn pairs(line: &[u8], c: Cursor, numbers: &mut [u32; 40], out: &mut [u8; ANSWER]) -> Numbers
+    ensures { λ _. ⌜ now (numbers .exit) ≡ typedAt (now (line .entry)) c 16 (now (numbers .entry)) .numbers ⌝ }
 {
-    let n = all_numbers(line, c, 16, out);
-    if 16 < n {
-        return 9;
+    match all_numbers(line, c, 16, numbers, out) {
+        Numbers::Found(n) => {
+            if n % 2 == 0 {
+                return Numbers::Found(n / 2);
+            }
+            Numbers::Said(wrong(
+                out,
+                b"a product has a revised target and a revised cap; a number is missing",
+                line.len(),
+            ))
+        }
+        Numbers::Said(k) => Numbers::Said(k),
     }
-    if n % 2 == 0 {
-        return n / 2;
-    }
-    wrong(
-        b"a product has a revised target and a revised cap; a number is missing",
-        line.len(),
-    );
-    9
 }
 
 // The pairs are those of more or fewer products than the auction has.
-pub fn other_pairs(line: &[u8], c: Cursor, products: usize) {
+pub fn other_pairs(line: &[u8], c: Cursor, products: usize, out: &mut [u8; ANSWER]) -> usize {
     other_count(
         line,
         c,
         limit(products) as usize * 2,
         b"a cutback in this auction has two numbers for each of ",
         products,
-    );
+        out,
+    )
 }

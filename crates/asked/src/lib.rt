@@ -1,5 +1,5 @@
-// What is typed after a command's word: plain numbers, a card's bytes, settings, bid lines, a cutback. What is wrong is said here, with its
-// column, and the answer tells no more than that it was said.
+// What is typed after a command's word: plain numbers, a card's bytes, settings, bid lines, a cutback. What is wrong is put into the lent
+// answer, with its column, and the length of that is handed back.
 mod bidding;
 mod cutting;
 mod numbers;
@@ -13,6 +13,7 @@ pub use cutting::Revised;
 pub use cutting::other_pairs;
 pub use cutting::pairs;
 pub use cutting::revised_of;
+pub use numbers::Numbers;
 pub use numbers::One;
 pub use numbers::all_numbers;
 pub use numbers::draw_of;

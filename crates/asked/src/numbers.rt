@@ -3,7 +3,8 @@ ghost use mathlib.Core.Path.{_≡_};
 ghost use Rattle.rules.specs.Count.{listOf};
 ghost use Prim.Native.Nat.{_≤_};
 ghost use Rattle.asked.specs.Asked.{byteOf, pairOf, drawnAt};
-ghost use Rattle.asked.specs.Typed.{limitOf, typedAt};
+ghost use Rattle.asked.specs.Typed.{limitOf, typedAfter, typedAt};
+use text::ANSWER;
 use text::Cursor;
 use text::Take;
 use text::take_number;
@@ -27,103 +28,113 @@ pub fn limit(most: usize) -> u8
     40
 }
 
-// Numbers up to the first word that is none, `most` of them at most.
-pub fn take_numbers(line: &[u8], c: Cursor, most: usize, out: &mut [u32; 40]) -> List
-    ensures { λ r. ⌜ (r ≡ typedAt (now (line .entry)) c most (now (out .entry)) .found) × (now (out .exit) ≡ typedAt (now (line .entry)) c most (now (out .entry)) .numbers) ⌝ }
+// Numbers up to the first word that is none, put after the `n` that are there; with those `most` of them at most.
+pub fn take_numbers(line: &[u8], c: Cursor, n: u8, most: usize, numbers: &mut [u32; 40]) -> List
+    ensures { λ r. ⌜ (r ≡ typedAfter (now (line .entry)) c n most (now (numbers .entry)) .found) × (now (numbers .exit) ≡ typedAfter (now (line .entry)) c n most (now (numbers .entry)) .numbers) ⌝ }
 {
     let top = limit(most);
     let mut at = c;
-    let mut n = 0;
-    while n < top {
+    let mut k = n;
+    while k < top {
         match take_number(line, at) {
             Take::Number(v, next) => {
-                out[n as usize] = v;
+                numbers[k as usize] = v;
                 at = next;
-                n += 1;
+                k += 1;
             }
             Take::TooLarge(p) => return List::TooLarge(p),
-            Take::NotANumber(p) => return List::Found(n, Cursor { at: p }),
-            Take::End => return List::Found(n, at),
+            Take::NotANumber(p) => return List::Found(k, Cursor { at: p }),
+            Take::End => return List::Found(k, at),
         }
     }
-    List::Found(n, at)
+    List::Found(k, at)
 }
 
-pub fn too_large(at: usize) {
-    wrong(b"a number above 4294967295", at);
+pub fn too_large(at: usize, out: &mut [u8; ANSWER]) -> usize {
+    wrong(out, b"a number above 4294967295", at)
 }
 
-// A number, and the place after it; or that what is wrong was said.
+// A number, and the place after it; or the length of the error that is in the answer.
 pub enum One {
     Number(u32, Cursor),
-    Said,
+    Said(usize),
 }
 
-pub fn one_number(line: &[u8], c: Cursor) -> One {
+pub fn one_number(line: &[u8], c: Cursor, out: &mut [u8; ANSWER]) -> One {
     match take_number(line, c) {
         Take::Number(n, next) => One::Number(n, next),
-        Take::TooLarge(p) => {
-            too_large(p);
-            One::Said
-        }
-        Take::NotANumber(p) => {
-            wrong(b"not a number", p);
-            One::Said
-        }
-        Take::End => {
-            wrong(b"a number is missing", line.len());
-            One::Said
-        }
+        Take::TooLarge(p) => One::Said(too_large(p, out)),
+        Take::NotANumber(p) => One::Said(wrong(out, b"not a number", p)),
+        Take::End => One::Said(wrong(out, b"a number is missing", line.len())),
     }
 }
 
-// Whether nothing is left of a line; what is left is said to be too much.
-pub fn ends(line: &[u8], c: Cursor) -> bool {
+// 0 where nothing is left of a line; otherwise the length of the error, which says `what` of it.
+fn left(line: &[u8], c: Cursor, what: &[u8], out: &mut [u8; ANSWER]) -> usize {
     let w = word(line, c);
     let a = w.from;
     let e = w.to;
     if a == e {
-        return true;
+        return 0;
     }
-    wrong(b"nothing more belongs here", a);
-    false
+    wrong(out, what, a)
 }
 
-// The numbers up to the end of a line, `most` of them at most: how many there are, or 41 where something is wrong and was said.
-pub fn all_numbers(line: &[u8], c: Cursor, most: usize, out: &mut [u32; 40]) -> usize
-    ensures { λ _. ⌜ now (out .exit) ≡ typedAt (now (line .entry)) c most (now (out .entry)) .numbers ⌝ }
+pub fn ends(line: &[u8], c: Cursor, out: &mut [u8; ANSWER]) -> usize {
+    left(line, c, b"nothing more belongs here", out)
+}
+
+// How many were found; or the length of the error that is in the answer.
+pub enum Numbers {
+    Found(usize),
+    Said(usize),
+}
+
+pub fn unless(said: usize, n: usize) -> Numbers {
+    if said == 0 {
+        return Numbers::Found(n);
+    }
+    Numbers::Said(said)
+}
+
+// The numbers up to the end of a line, `most` of them at most.
+pub fn all_numbers(
+    line: &[u8],
+    c: Cursor,
+    most: usize,
+    numbers: &mut [u32; 40],
+    out: &mut [u8; ANSWER],
+) -> Numbers
+    ensures { λ _. ⌜ now (numbers .exit) ≡ typedAt (now (line .entry)) c most (now (numbers .entry)) .numbers ⌝ }
 {
-    match take_numbers(line, c, most, out) {
+    match take_numbers(line, c, 0, most, numbers) {
         List::Found(found, next) => {
             let n = found as usize;
             if most <= n {
-                if ends(line, next) {
-                    return n;
-                }
-                return 41;
+                return unless(ends(line, next, out), n);
             }
-            let w = word(line, next);
-            let a = w.from;
-            let e = w.to;
-            if a == e {
-                return n;
-            }
-            wrong(b"not a number", a);
+            unless(left(line, next, b"not a number", out), n)
         }
-        List::TooLarge(p) => too_large(p),
+        List::TooLarge(p) => Numbers::Said(too_large(p, out)),
     }
-    41
 }
 
 // Other than the `most` numbers that `products` products have, which `has` begins to say: at the first that is too many, or where
 // one is missing.
-pub fn other_count(line: &[u8], c: Cursor, most: usize, has: &[u8], products: usize) {
-    let mut out = [0u32; 40];
-    let at = match take_numbers(line, c, most, &mut out) {
+pub fn other_count(
+    line: &[u8],
+    c: Cursor,
+    most: usize,
+    has: &[u8],
+    products: usize,
+    out: &mut [u8; ANSWER],
+) -> usize {
+    let mut numbers = [0u32; 40];
+    let at = match take_numbers(line, c, 0, most, &mut numbers) {
         List::Found(_, next) => word(line, next).from,
         List::TooLarge(p) => p,
     };
-    wrong_number(has, products as u64, b" products", at);
+    wrong_number(out, has, products as u64, b" products", at)
 }
 
 // A number in the bits of a setting, a card's field or a draw. One that they do not hold becomes the largest that they hold,

@@ -18,13 +18,16 @@ use rules::Row;
 use rules::Settings;
 use rules::Tranches;
 use rules::Unit;
+use text::ANSWER;
 use text::Cursor;
+use text::Take;
+use text::take_number;
 use text::word;
 use text::wrong;
 
-// The settings, where they were given; otherwise what is wrong was said.
+// The settings, and 0 where they were given; otherwise the length of the error that is in the answer.
 pub struct Opening {
-    pub given: bool,
+    pub said: usize,
     pub settings: Settings,
 }
 
@@ -126,65 +129,125 @@ fn settings_of(sizes: Sizes, products: [u32; 40], bidders: [u32; 40], rows: [u32
 
 // ---- From text to numbers
 
-// How many groups of numbers stand after a key word, and the place after them; or that what is wrong was said.
-enum Group {
-    Found(u8, Cursor),
-    Said,
+// Whether a byte begins a word that was meant as a number.
+fn numeral(b: u8) -> bool {
+    match b {
+        b'0'..=b'9' | b'.' | b',' | b'-' | b'+' | b'$' => true,
+        _ => false,
+    }
 }
 
-// A key word and groups of `each` numbers after it, one at least and `most` numbers at most. `instead` is said where another word
-// stands, `missing` where a group is not whole.
+// Whether the next word is no number, though meant as one.
+fn meant(line: &[u8], c: Cursor) -> bool {
+    let w = word(line, c);
+    let a = w.from;
+    let e = w.to;
+    if a == e {
+        return false;
+    }
+    match take_number(line, c) {
+        Take::NotANumber(_) => numeral(line[a]),
+        _ => false,
+    }
+}
+
+// How many groups of numbers stand after a key word, and the place after them; `said` is the length of the error where something is
+// wrong, otherwise 0.
+struct Group {
+    said: usize,
+    count: u8,
+    next: Cursor,
+}
+
+// `what` is wrong with the next word, unless that was meant as a number.
+fn refused(line: &[u8], c: Cursor, what: &[u8], out: &mut [u8; ANSWER]) -> Group {
+    let at = word(line, c).from;
+    let said = if meant(line, c) {
+        wrong(out, b"not a number here", at)
+    } else {
+        wrong(out, what, at)
+    };
+    Group {
+        said,
+        count: 0,
+        next: c,
+    }
+}
+
+// A key word and groups of `each` numbers after it, one at least and `most` numbers at most; the key word may stand before further
+// groups too. `instead` is said where another word stands, `missing` where a group is not whole.
 fn listed(
     line: &[u8],
     c: Cursor,
     key: &[u8],
     instead: &[u8],
     each: u8,
-    most: usize,
+    most: u8,
     missing: &[u8],
-    out: &mut [u32; 40],
+    numbers: &mut [u32; 40],
+    out: &mut [u8; ANSWER],
 ) -> Group
     requires { ⌜ 0 < each ⌝ }
 {
-    let w = word(line, c);
-    let a = w.from;
-    let e = w.to;
-    if !same(&line[a..e], key) {
-        wrong(instead, a);
-        return Group::Said;
-    }
-    match take_numbers(line, Cursor { at: e }, most, out) {
-        List::Found(n, next) => {
-            if (n != 0) & (n % each == 0) {
-                return Group::Found(n / each, next);
-            }
-            wrong(missing, word(line, next).from);
+    let mut at = c;
+    let mut n = 0u8;
+    while n < most {
+        let w = word(line, at);
+        let a = w.from;
+        let e = w.to;
+        if !same(&line[a..e], key) {
+            break;
         }
-        List::TooLarge(p) => too_large(p),
+        match take_numbers(line, Cursor { at: e }, n, most as usize, numbers) {
+            List::Found(k, next) => {
+                if n < k {
+                    if k % each == 0 {
+                        n = k;
+                        at = next;
+                        continue;
+                    }
+                }
+                return refused(line, next, missing, out);
+            }
+            List::TooLarge(p) => {
+                return Group {
+                    said: too_large(p, out),
+                    count: 0,
+                    next: at,
+                };
+            }
+        }
     }
-    Group::Said
+    if n == 0 {
+        return refused(line, at, instead, out);
+    }
+    Group {
+        said: 0,
+        count: n / each,
+        next: at,
+    }
 }
 
-fn products(line: &[u8], c: Cursor, out: &mut [u32; 40]) -> Group {
+fn products(line: &[u8], c: Cursor, numbers: &mut [u32; 40], out: &mut [u8; ANSWER]) -> Group {
     let instead = b"the word product belongs here";
     let missing = b"a product has a target, a cap and a starting price; a number is missing";
-    listed(line, c, b"product", instead, 3, 24, missing, out)
+    listed(line, c, b"product", instead, 3, 24, missing, numbers, out)
 }
 
-fn bidders(line: &[u8], c: Cursor, out: &mut [u32; 40]) -> Group {
+fn bidders(line: &[u8], c: Cursor, numbers: &mut [u32; 40], out: &mut [u8; ANSWER]) -> Group {
     let instead = b"the word bidder belongs here, after 1 to 8 products";
     let missing = b"a bidder has an initial eligibility; a number is missing";
-    listed(line, c, b"bidder", instead, 1, 32, missing, out)
+    listed(line, c, b"bidder", instead, 1, 32, missing, numbers, out)
 }
 
-fn rows(line: &[u8], c: Cursor, out: &mut [u32; 40]) -> Group {
+fn rows(line: &[u8], c: Cursor, numbers: &mut [u32; 40], out: &mut [u8; ANSWER]) -> Group {
     let instead = b"the word row belongs here, after 1 to 32 bidders";
     let missing = b"a row has a percentage and a decrement; a number is missing";
-    listed(line, c, b"row", instead, 2, 16, missing, out)
+    listed(line, c, b"row", instead, 2, 16, missing, numbers, out)
 }
 
-// What `open` is given where something is wrong, which was said.
-fn nothing() -> Opening {
+// What `open` is given where something is wrong.
+fn nothing(said: usize) -> Opening {
     let sizes = Sizes {
         unit: Unit::Kwh,
         statewide: 0,
@@ -194,58 +257,65 @@ fn nothing() -> Opening {
     };
     let zero = [0u32; 40];
     let settings = settings_of(sizes, zero, zero, zero);
-    Opening {
-        given: false,
-        settings,
-    }
+    Opening { said, settings }
 }
 
-// The statewide cap and the groups, after the unit.
-fn after_unit(line: &[u8], c: Cursor, unit: Unit) -> Opening {
-    let One::Number(statewide, next) = one_number(line, c) else {
-        return nothing();
-    };
+// The groups, after the unit and the statewide cap.
+fn after_cap(
+    line: &[u8],
+    c: Cursor,
+    unit: Unit,
+    statewide: u32,
+    out: &mut [u8; ANSWER],
+) -> Opening {
     let mut p = [0u32; 40];
     let mut b = [0u32; 40];
     let mut r = [0u32; 40];
-    let Group::Found(np, after_products) = products(line, next, &mut p) else {
-        return nothing();
-    };
-    let Group::Found(nb, after_bidders) = bidders(line, after_products, &mut b) else {
-        return nothing();
-    };
-    let Group::Found(nr, after_rows) = rows(line, after_bidders, &mut r) else {
-        return nothing();
-    };
-    if ends(line, after_rows) {
-        let sizes = Sizes {
-            unit,
-            statewide,
-            products: np,
-            bidders: nb,
-            rows: nr,
-        };
-        let settings = settings_of(sizes, p, b, r);
-        return Opening {
-            given: true,
-            settings,
-        };
+    let product = products(line, c, &mut p, out);
+    if product.said != 0 {
+        return nothing(product.said);
     }
-    nothing()
+    let bidder = bidders(line, product.next, &mut b, out);
+    if bidder.said != 0 {
+        return nothing(bidder.said);
+    }
+    let row = rows(line, bidder.next, &mut r, out);
+    if row.said != 0 {
+        return nothing(row.said);
+    }
+    let said = ends(line, row.next, out);
+    if said != 0 {
+        return nothing(said);
+    }
+    let sizes = Sizes {
+        unit,
+        statewide,
+        products: product.count,
+        bidders: bidder.count,
+        rows: row.count,
+    };
+    let settings = settings_of(sizes, p, b, r);
+    Opening { said, settings }
+}
+
+fn after_unit(line: &[u8], c: Cursor, unit: Unit, out: &mut [u8; ANSWER]) -> Opening {
+    match one_number(line, c, out) {
+        One::Number(statewide, next) => after_cap(line, next, unit, statewide, out),
+        One::Said(said) => nothing(said),
+    }
 }
 
 // The settings of `open`, after its word.
-pub fn settings(line: &[u8], c: Cursor) -> Opening {
+pub fn settings(line: &[u8], c: Cursor, out: &mut [u8; ANSWER]) -> Opening {
     let w = word(line, c);
     let a = w.from;
     let e = w.to;
     let next = Cursor { at: e };
     if same(&line[a..e], b"kwh") {
-        return after_unit(line, next, Unit::Kwh);
+        return after_unit(line, next, Unit::Kwh, out);
     }
     if same(&line[a..e], b"mwday") {
-        return after_unit(line, next, Unit::MwDay);
+        return after_unit(line, next, Unit::MwDay, out);
     }
-    wrong(b"the unit is kwh or mwday", a);
-    nothing()
+    nothing(wrong(out, b"the unit is kwh or mwday", a))
 }

@@ -1,1 +1,1 @@
-pub mod Copied
+pub mod Kept

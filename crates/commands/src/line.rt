@@ -1,91 +1,370 @@
 // A line, answered: its first word names the command.
-ghost use Rattle.rules.specs.Uses.{Called};
-use crate::auction;
-use crate::cards;
+ghost use Rattle.calls.specs.Lines.{Left, firstWord};
+ghost use mathlib.Core.Logic.{_⊎_};
+ghost use mathlib.Core.Path.{_≡_};
+use asked::ends;
+use calls::Made;
+use calls::make;
 use check::same;
 use layout::STATE;
+use looks::look;
+use rules::Count;
+use rules::Phase;
+use store::Act;
 use store::Kind;
+use store::Undo;
+use store::copy_before;
+use store::keep;
+use text::ANSWER;
 use text::Cursor;
-use text::line as say_line;
+use text::control_at;
+use text::put;
+use text::put_named;
 use text::word;
+use text::wrong_number;
 
-fn help(line: &[u8], c: Cursor) {
-    if asked::ends(line, c) {
-        say_line(b"ok\n");
-        say_line(
-            b"  open UNIT STATEWIDE product T C P .. bidder E .. row PCT DEC ..   open an auction:\n",
-        );
-        say_line(
-            b"      UNIT is kwh or mwday; T C P are a product's target, cap and starting price;\n",
-        );
-        say_line(
-            b"      E is a bidder's initial eligibility; PCT DEC are a row's percentage and decrement\n",
-        );
-        say_line(b"  file HEX   file a card\n");
-        say_line(b"  bid B T W X P ..   write bidder B's card of the present round and file it:\n");
-        say_line(b"      T W X P are a product's tranches, withdrawn, exit and priority\n");
-        say_line(b"  count   how many bidders are still to file\n");
-        say_line(b"  calculate D0 D1 ..   calculate the round; the bidders in draw order\n");
-        say_line(b"  suggest BID RATIO   the suggested volume for BID tranches bid:\n");
-        say_line(b"      RATIO is the target ratio in hundredths\n");
-        say_line(
-            b"  cutback T C ..   cut the volume after round 1, before a card of round 2 is filed:\n",
-        );
-        say_line(b"      T C are a product's revised target and cap\n");
-        say_line(b"  report B   the report to bidder B\n");
-        say_line(b"  result   awards and prices of a closed auction\n");
-        say_line(b"  show   the whole state\n");
-        say_line(b"  return   return the box\n");
-        say_line(b"  read N HEX   read a card of N products\n");
-        say_line(b"  write N B R T W X P ..   write bidder B's card of round R for N products\n");
-        say_line(b"  help   these lines\n");
+// What comes after an answer.
+pub enum Next {
+    Goes,
+    // It is a question, and the line is done only if it is answered by yes.
+    Asks,
+    Bails,
+    Spares,
+    Quits,
+    // The box can be relied on no more.
+    Breaks,
+}
+
+// How long the answer is, and what comes after it.
+pub struct Said {
+    pub n: usize,
+    pub next: Next,
+}
+
+fn told(n: usize) -> Said {
+    Said {
+        n,
+        next: Next::Goes,
     }
 }
 
+// The state for a call to work on.
+fn copy_of(state: &[u8; STATE]) -> [u8; STATE]
+    ensures { λ r. ⌜ r ≡ now (state .entry) ⌝ }
+{
+    *state
+}
+
+// ---- Questions
+
+// `0, 3, 4`, the bidders that have not filed: the place after them.
+fn put_missing(out: &mut [u8; ANSWER], at: usize, state: &[u8; STATE]) -> usize {
+    let n = book::bidders(state);
+    let mut to = at;
+    let mut b = 0;
+    while b < 32 {
+        if n <= b {
+            return to;
+        }
+        to = put_if_missing(out, to, at, state, b);
+        b += 1;
+    }
+    to
+}
+
+fn put_if_missing(
+    out: &mut [u8; ANSWER],
+    to: usize,
+    first: usize,
+    state: &[u8; STATE],
+    b: usize,
+) -> usize {
+    if 32 <= b {
+        return to;
+    }
+    if book::has_filed(state, b) {
+        return to;
+    }
+    if to == first {
+        return put_named(out, to, b"", b as u64);
+    }
+    put_named(out, to, b", ", b as u64)
+}
+
+fn ask_calculation(out: &mut [u8; ANSWER], state: &[u8; STATE]) -> usize {
+    match console::count(state) {
+        Count::ToFile(n) => {
+            if n == 0 {
+                return 0;
+            }
+            let a = put(out, 0, b"not filed yet, by bidder: ");
+            let b = put_missing(out, a, state);
+            put(
+                out,
+                b,
+                b"\n  a default bid will stand for each of them. Calculate all the same? (yes or no)\n",
+            )
+        }
+        Count::Refused(_) => 0,
+    }
+}
+
+fn ask_return(out: &mut [u8; ANSWER], state: &[u8; STATE]) -> usize {
+    match Phase::of(book::phase(state)) {
+        Phase::Issued => 0,
+        Phase::Closed => 0,
+        Phase::Open => {
+            let a = put_named(
+                out,
+                0,
+                b"the auction is open, in round ",
+                book::round(state) as u64,
+            );
+            put(
+                out,
+                a,
+                b"\n  a return makes every byte of it zero. Return all the same? (yes or no)\n",
+            )
+        }
+        Phase::Stopped => put(
+            out,
+            0,
+            b"the auction is stopped, not closed\n  a return makes every byte of it zero. Return all the same? (yes or no)\n",
+        ),
+    }
+}
+
+// The question that a person is asked before a call that is about to be kept: its length, or 0 where there is none.
+fn question(act: Act, out: &mut [u8; ANSWER], state: &[u8; STATE]) -> usize {
+    match act {
+        Act::Calculation => ask_calculation(out, state),
+        Act::Return => ask_return(out, state),
+        Act::Plain => 0,
+        Act::Opening => 0,
+        Act::Undo => 0,
+    }
+}
+
+// ---- A call kept
+
+// A call that is done on a copy is kept, or first asked about.
+fn settle(
+    asks: bool,
+    act: Act,
+    n: usize,
+    kind: Kind,
+    path: &[u8],
+    given: &[u8],
+    state: &mut [u8; STATE],
+    work: [u8; STATE],
+    out: &mut [u8; ANSWER],
+) -> Said
+    ensures { λ _. ⌜ (now (state .exit) ≡ now (state .entry)) ⊎ (now (state .exit) ≡ work) ⌝ }
+{
+    if asks {
+        let q = question(act, out, state);
+        if q != 0 {
+            return Said {
+                n: q,
+                next: Next::Asks,
+            };
+        }
+    }
+    let done = keep(kind, path, act, given, n, state, work, out);
+    if done.ends {
+        return Said {
+            n: done.said,
+            next: Next::Breaks,
+        };
+    }
+    told(done.said)
+}
+
+// `undo`: the state before the last calculation or return comes back.
+fn undo(
+    line: &[u8],
+    c: Cursor,
+    kind: Kind,
+    path: &[u8],
+    state: &mut [u8; STATE],
+    out: &mut [u8; ANSWER],
+) -> Said {
+    let more = ends(line, c, out);
+    if more != 0 {
+        return told(more);
+    }
+    match kind {
+        Kind::Filed => {}
+        Kind::Loose => {
+            return told(put(
+                out,
+                0,
+                b"error nothing to undo: a copy is kept beside a box file only\n",
+            ));
+        }
+        Kind::Wrong => return told(calls::other_length(kind, state, out)),
+    }
+    let mut copy = [0u8; STATE];
+    match copy_before(path, state, &mut copy) {
+        Undo::Copy => {}
+        Undo::Nothing => {
+            return told(put(
+                out,
+                0,
+                b"error nothing to undo: no calculation or return since the last undo or opening\n",
+            ));
+        }
+        Undo::Strange => {
+            return told(put(
+                out,
+                0,
+                b"error nothing is undone: the copy beside the box is no state of a box\n",
+            ));
+        }
+    }
+    let n = put(out, 0, b"ok\n");
+    settle(false, Act::Undo, n, kind, path, b"undo", state, copy, out)
+}
+
+// ---- Commands
+
+fn quit(line: &[u8], c: Cursor, out: &mut [u8; ANSWER]) -> Said {
+    let more = ends(line, c, out);
+    if more != 0 {
+        return told(more);
+    }
+    Said {
+        n: put(out, 0, b"ok\n"),
+        next: Next::Quits,
+    }
+}
+
+// `bail on`, `bail off`
+fn bail(line: &[u8], c: Cursor, out: &mut [u8; ANSWER]) -> Said {
+    let span = word(line, c);
+    let a = span.from;
+    let e = span.to;
+    let is_on = same(&line[a..e], b"on");
+    if !is_on {
+        if !same(&line[a..e], b"off") {
+            return told(text::wrong(out, b"bail is on or off", a));
+        }
+    }
+    let more = ends(line, Cursor { at: e }, out);
+    if more != 0 {
+        return told(more);
+    }
+    let n = put(out, 0, b"ok\n");
+    if is_on {
+        return Said {
+            n,
+            next: Next::Bails,
+        };
+    }
+    Said {
+        n,
+        next: Next::Spares,
+    }
+}
+
+// A command that makes no call, by its word.
+fn without_call(
+    w: &[u8],
+    at: usize,
+    line: &[u8],
+    c: Cursor,
+    kind: Kind,
+    path: &[u8],
+    state: &mut [u8; STATE],
+    out: &mut [u8; ANSWER],
+) -> Said
+    ensures { λ _. ⌜ Left (now (w .entry)) (now (state .entry)) (now (state .exit)) ⌝ }
+{
+    if same(w, b"undo") {
+        return undo(line, c, kind, path, state, out);
+    }
+    if same(w, b"bail") {
+        return bail(line, c, out);
+    }
+    if same(w, b"quit") {
+        return quit(line, c, out);
+    }
+    if same(w, b"exit") {
+        return quit(line, c, out);
+    }
+    told(look(w, at, line, c, kind, state, out))
+}
+
+// A command: its word, the place of that, and what was given from the word on.
+fn command(
+    w: &[u8],
+    at: usize,
+    given: &[u8],
+    line: &[u8],
+    c: Cursor,
+    asks: bool,
+    kind: Kind,
+    path: &[u8],
+    state: &mut [u8; STATE],
+    out: &mut [u8; ANSWER],
+) -> Said
+    ensures { λ _. ⌜ Left (now (w .entry)) (now (state .entry)) (now (state .exit)) ⌝ }
+{
+    let mut work = copy_of(state);
+    match make(w, line, c, kind, &mut work, out) {
+        Made::Done(act, n) => settle(asks, act, n, kind, path, given, state, work, out),
+        Made::Said(n) => told(n),
+        Made::Other => without_call(w, at, line, c, kind, path, state, out),
+    }
+}
+
+fn byte_at(line: &[u8], i: usize) -> u8 {
+    if i < line.len() {
+        return line[i];
+    }
+    0
+}
+
 // Answers a line. Nothing is said to an empty one, or to one that begins with #.
-pub fn answer(line: &[u8], kind: Kind, path: &[u8], state: &mut [u8; STATE])
-    ensures { λ _. ⌜ Called (now (state .entry)) (now (state .exit)) ⌝ }
+pub fn answer(
+    line: &[u8],
+    asks: bool,
+    kind: Kind,
+    path: &[u8],
+    state: &mut [u8; STATE],
+    out: &mut [u8; ANSWER],
+) -> Said
+    ensures { λ _. ⌜ Left (firstWord (now (line .entry))) (now (state .entry)) (now (state .exit)) ⌝ }
 {
     let span = word(line, Cursor { at: 0 });
     let a = span.from;
     let e = span.to;
     if a == e {
-        return;
+        return told(0);
     }
     if line[a] == b'#' {
-        return;
+        return told(0);
     }
-    let c = Cursor { at: e };
-    let w = &line[a..e];
-    if same(w, b"open") {
-        auction::open(line, c, kind, path, state);
-    } else if same(w, b"file") {
-        cards::file(line, c, kind, path, state);
-    } else if same(w, b"bid") {
-        cards::bid(line, c, kind, path, state);
-    } else if same(w, b"count") {
-        auction::count(line, c, kind, state);
-    } else if same(w, b"calculate") {
-        auction::calculate(line, c, kind, path, state);
-    } else if same(w, b"suggest") {
-        auction::suggest(line, c);
-    } else if same(w, b"cutback") {
-        auction::cutback(line, c, kind, path, state);
-    } else if same(w, b"report") {
-        auction::report(line, c, kind, state);
-    } else if same(w, b"result") {
-        auction::result(line, c, kind, state);
-    } else if same(w, b"show") {
-        auction::show(line, c, kind, state);
-    } else if same(w, b"return") {
-        auction::return_box(line, c, kind, path, state);
-    } else if same(w, b"read") {
-        cards::read(line, c);
-    } else if same(w, b"write") {
-        cards::write(line, c);
-    } else if same(w, b"help") {
-        help(line, c);
-    } else {
-        text::wrong(b"no such command; help lists them", a);
+    let bad = control_at(line);
+    if bad < line.len() {
+        return told(wrong_number(
+            out,
+            b"a control character, byte ",
+            byte_at(line, bad) as u64,
+            b"",
+            bad,
+        ));
     }
+    command(
+        &line[a..e],
+        a,
+        &line[a..],
+        line,
+        Cursor { at: e },
+        asks,
+        kind,
+        path,
+        state,
+        out,
+    )
 }

@@ -1,85 +1,669 @@
-// The loop: a line of standard input is answered as soon as it is read. A run leaves the state that calls, one after the other, leave.
-ghost use Prim.Native.Nat.{_≤_};
-ghost use Rattle.rules.specs.Uses.{Reached};
+// The loop: a line of standard input is answered as soon as it is read. A run leaves what its lines, one after the other, leave.
+ghost use Prim.Native.Nat.{_≤_, _<_};
+ghost use Rattle.calls.specs.Lines.{Served};
 ghost use lib.ListN.{length};
+ghost use mathlib.Core.Path.{_≡_};
+use crate::line::Next;
+use crate::line::Said;
 use crate::line::answer;
+use audit::FINE;
+use audit::NOT_OK;
+use audit::UNUSABLE;
+use check::same;
 use layout::STATE;
+use libc::STDIN_FILENO;
 use store::Kind;
+use text::ANSWER;
+use text::Cursor;
 use text::Input;
+use text::join_lines;
 use text::keep_rest;
 use text::next_end;
+use text::put;
+use text::read_again;
+use text::send;
+use text::word;
 
-// Where the line that ends at `end` begins: of the end of one that was too long nothing is left, which is not answered again.
-fn line_start(skipping: bool, start: usize, end: usize) -> usize
-    requires { ⌜ start ≤ end ⌝ }
-    ensures { λ r. ⌜ r ≤ end ⌝ }
-{
-    if skipping { end } else { start }
+// Room for a line of 2,048 bytes and its end.
+const LINE: usize = 2049;
+
+// How a run goes: whether each line is written before its answer, whether it ends at the first that is not answered ok, and whether a
+// person types, who is asked before what cannot be undone.
+pub struct Manner {
+    pub echoes: bool,
+    pub bails: bool,
+    pub asks: bool,
 }
 
-// Answers each whole line of the first `full` bytes, and gives the place after the last.
-fn answer_lines(
-    buf: &[u8],
-    full: usize,
-    skipping: bool,
+// How it has gone so far: whether a line was answered, the status that the run would end with, whether it ends now, whether it bails, and
+// how long the line is that a question stands for; 0 where none does.
+pub struct Course {
+    pub begun: bool,
+    pub status: u8,
+    pub ended: bool,
+    pub bails: bool,
+    pub asked: usize,
+}
+
+impl Course {
+    pub fn new(bails: bool) -> Course {
+        Course {
+            begun: false,
+            status: FINE,
+            ended: false,
+            bails,
+            asked: 0,
+        }
+    }
+
+    fn broken(self) -> Course {
+        Course {
+            begun: true,
+            status: UNUSABLE,
+            ended: true,
+            bails: self.bails,
+            asked: 0,
+        }
+    }
+
+    // A line was not answered ok.
+    fn fallen(self) -> Course {
+        Course {
+            begun: true,
+            status: NOT_OK,
+            ended: self.bails,
+            bails: self.bails,
+            asked: 0,
+        }
+    }
+
+    fn quits(self) -> Course {
+        Course {
+            begun: true,
+            status: self.status,
+            ended: true,
+            bails: self.bails,
+            asked: 0,
+        }
+    }
+
+    fn with_bail(self, bails: bool) -> Course {
+        Course {
+            begun: true,
+            status: self.status,
+            ended: false,
+            bails,
+            asked: 0,
+        }
+    }
+
+    fn goes(self) -> Course {
+        self.with_bail(self.bails)
+    }
+
+    fn asks(self, n: usize) -> Course {
+        Course {
+            begun: true,
+            status: self.status,
+            ended: false,
+            bails: self.bails,
+            asked: n,
+        }
+    }
+}
+
+// Whether an answer is `ok`, or none.
+fn is_ok(out: &[u8; ANSWER], n: usize) -> bool {
+    if n == 0 {
+        return true;
+    }
+    if out[0] == b'o' {
+        return out[1] == b'k';
+    }
+    false
+}
+
+// Writes the answer, and takes in what it was. `length` is that of the line.
+fn take_in(course: Course, told: Said, length: usize, out: &[u8; ANSWER]) -> Course {
+    if !send(out, told.n) {
+        return course.broken();
+    }
+    let next = told.next;
+    match next {
+        Next::Goes => {}
+        Next::Asks => return course.asks(length),
+        Next::Bails => return course.with_bail(true),
+        Next::Spares => return course.with_bail(false),
+        Next::Quits => return course.quits(),
+        Next::Breaks => return course.broken(),
+    }
+    if is_ok(out, told.n) {
+        return course.goes();
+    }
+    course.fallen()
+}
+
+// ---- A line echoed
+
+fn is_remark(line: &[u8]) -> bool {
+    let span = word(line, Cursor { at: 0 });
+    let a = span.from;
+    if a < line.len() {
+        return line[a] == b'#';
+    }
+    false
+}
+
+fn is_empty(line: &[u8]) -> bool {
+    let span = word(line, Cursor { at: 0 });
+    span.from == span.to
+}
+
+// A byte that would do something to a terminal is shown as a question mark.
+fn shown(byte: u8) -> u8 {
+    if byte == 127 {
+        return b'?';
+    }
+    if byte < 32 {
+        if byte == b'\t' {
+            return byte;
+        }
+        return b'?';
+    }
+    byte
+}
+
+fn put_shown(out: &mut [u8; ANSWER], at: usize, line: &[u8]) -> usize {
+    let mut to = at;
+    let mut i = 0;
+    while i < line.len() {
+        let one = [shown(line[i]); 1];
+        to = put(out, to, &one);
+        i += 1;
+    }
+    put(out, to, b"\n")
+}
+
+// A command stands after `> `, a remark or an empty line as it is.
+fn echo(line: &[u8], out: &mut [u8; ANSWER]) -> bool {
+    if is_remark(line) | is_empty(line) {
+        let n = put_shown(out, 0, line);
+        return send(out, n);
+    }
+    let a = put(out, 0, b"> ");
+    let n = put_shown(out, a, line);
+    send(out, n)
+}
+
+// ---- A line answered
+
+// The line that a question stands for is kept.
+fn hold(line: &[u8], held: &mut [u8; LINE]) {
+    let mut i = 0;
+    while i < LINE {
+        if line.len() <= i {
+            return;
+        }
+        held[i] = line[i];
+        i += 1;
+    }
+}
+
+fn respond_to(
+    line: &[u8],
+    asks: bool,
+    course: Course,
     kind: Kind,
     path: &[u8],
     state: &mut [u8; STATE],
-) -> usize
+    out: &mut [u8; ANSWER],
+) -> Course
+    ensures { λ _. ⌜ Served (now (state .entry)) (now (state .exit)) ⌝ }
+{
+    let told = answer(line, asks, kind, path, state, out);
+    take_in(course, told, line.len(), out)
+}
+
+// The line that was asked about is done without asking again.
+fn respond_held(
+    held: &[u8],
+    n: usize,
+    course: Course,
+    kind: Kind,
+    path: &[u8],
+    state: &mut [u8; STATE],
+    out: &mut [u8; ANSWER],
+) -> Course
+    ensures { λ _. ⌜ Served (now (state .entry)) (now (state .exit)) ⌝ }
+{
+    if n <= held.len() {
+        return respond_to(&held[0..n], false, course.goes(), kind, path, state, out);
+    }
+    course.goes()
+}
+
+fn respond_yes(
+    held: &[u8; LINE],
+    course: Course,
+    kind: Kind,
+    path: &[u8],
+    state: &mut [u8; STATE],
+    out: &mut [u8; ANSWER],
+) -> Course
+    ensures { λ _. ⌜ Served (now (state .entry)) (now (state .exit)) ⌝ }
+{
+    respond_held(held, course.asked, course, kind, path, state, out)
+}
+
+fn respond_no(course: Course, out: &mut [u8; ANSWER]) -> Course {
+    let n = put(out, 0, b"not done\n");
+    if send(out, n) {
+        return course.goes();
+    }
+    course.broken()
+}
+
+enum Reply {
+    // No question stands, or the line is no reply: it is a line like any other, and drops the question.
+    Other,
+    Yes,
+    No,
+}
+
+fn reply_of(line: &[u8], asked: usize) -> Reply {
+    if asked == 0 {
+        return Reply::Other;
+    }
+    let span = word(line, Cursor { at: 0 });
+    let a = span.from;
+    let e = span.to;
+    if a == e {
+        return Reply::No;
+    }
+    if same(&line[a..e], b"yes") {
+        return Reply::Yes;
+    }
+    if same(&line[a..e], b"y") {
+        return Reply::Yes;
+    }
+    if same(&line[a..e], b"no") {
+        return Reply::No;
+    }
+    if same(&line[a..e], b"n") {
+        return Reply::No;
+    }
+    Reply::Other
+}
+
+fn respond(
+    line: &[u8],
+    held: &mut [u8; LINE],
+    manner: Manner,
+    course: Course,
+    kind: Kind,
+    path: &[u8],
+    state: &mut [u8; STATE],
+    out: &mut [u8; ANSWER],
+) -> Course
+    ensures { λ _. ⌜ Served (now (state .entry)) (now (state .exit)) ⌝ }
+{
+    if manner.echoes {
+        if !echo(line, out) {
+            return course.broken();
+        }
+    }
+    match reply_of(line, course.asked) {
+        Reply::Yes => return respond_yes(held, course, kind, path, state, out),
+        Reply::No => return respond_no(course, out),
+        Reply::Other => {}
+    }
+    hold(line, held);
+    respond_to(line, manner.asks, course, kind, path, state, out)
+}
+
+// ---- The lines of the input
+
+// Three bytes before the first line may say only how text is written: they are made spaces.
+fn unmark(buf: &mut [u8], begun: bool)
+    ensures { λ _. ⌜ length (now (buf .exit)) ≡ length (now (buf .entry)) ⌝ }
+{
+    if begun {
+        return;
+    }
+    if buf.len() < 3 {
+        return;
+    }
+    if (buf[0] == 0xef) & (buf[1] == 0xbb) & (buf[2] == 0xbf) {
+        buf[0] = b' ';
+        buf[1] = b' ';
+        buf[2] = b' ';
+    }
+}
+
+// The line from one place to another, made one where it goes over several. The rest of one that was too long is not answered again.
+fn one_line(
+    buf: &mut [u8],
+    skip: bool,
+    from: usize,
+    to: usize,
+    held: &mut [u8; LINE],
+    manner: Manner,
+    course: Course,
+    kind: Kind,
+    path: &[u8],
+    state: &mut [u8; STATE],
+    out: &mut [u8; ANSWER],
+) -> Course
+    requires { ⌜ (from ≤ to) × (to ≤ length (now buf)) ⌝ }
+    ensures { λ _. ⌜ (length (now (buf .exit)) ≡ length (now (buf .entry))) × Served (now (state .entry)) (now (state .exit)) ⌝ }
+{
+    if skip {
+        return course.goes();
+    }
+    join_lines(buf, from, to);
+    respond(&buf[from..to], held, manner, course, kind, path, state, out)
+}
+
+// The place after a line's end: CR and LF together are one.
+fn next_start(buf: &[u8], e: usize, full: usize) -> usize
+    requires { ⌜ (e < full) × (full ≤ length (now buf)) ⌝ }
+    ensures { λ r. ⌜ (e < r) × (r ≤ full) ⌝ }
+{
+    if e + 1 < full {
+        if (buf[e] == b'\r') & (buf[e + 1] == b'\n') {
+            return e + 2;
+        }
+    }
+    e + 1
+}
+
+// The place after the lines that were answered, and how it has gone.
+struct Lines {
+    at: usize,
+    course: Course,
+}
+
+// Answers each whole line of the first `full` bytes.
+fn answer_lines(
+    buf: &mut [u8],
+    full: usize,
+    skipping: bool,
+    held: &mut [u8; LINE],
+    manner: Manner,
+    course: Course,
+    kind: Kind,
+    path: &[u8],
+    state: &mut [u8; STATE],
+    out: &mut [u8; ANSWER],
+) -> Lines
     requires { ⌜ full ≤ length (now buf) ⌝ }
-    ensures { λ r. ⌜ (r ≤ full) × Reached (now (state .entry)) (now (state .exit)) ⌝ }
+    ensures { λ r. ⌜ ((r .at ≤ full) × (length (now (buf .exit)) ≡ length (now (buf .entry)))) × Served (now (state .entry)) (now (state .exit)) ⌝ }
 {
     let mut start = 0;
     let mut skip = skipping;
+    let mut gone = course;
     while start < full {
         let e = next_end(buf, start, full);
         if e == full {
-            return start;
+            return Lines {
+                at: start,
+                course: gone,
+            };
         }
-        let from = line_start(skip, start, e);
-        answer(&buf[from..e], kind, path, state);
+        gone = one_line(
+            buf,
+            skip,
+            start,
+            e,
+            held,
+            manner,
+            gone,
+            kind,
+            path,
+            state,
+            out,
+        );
         skip = false;
-        start = e + 1;
+        start = next_start(buf, e, full);
+        if gone.ended {
+            return Lines {
+                at: start,
+                course: gone,
+            };
+        }
     }
-    start
+    Lines {
+        at: start,
+        course: gone,
+    }
 }
 
-// Reads once, and answers each line that is then whole. A full buffer without a line end is a line that is too long, and the last line
-// of the input may have no line end.
-fn turn(buf: &mut [u8], from: Input, kind: Kind, path: &[u8], state: &mut [u8; STATE]) -> Input
-    ensures { λ _. ⌜ Reached (now (state .entry)) (now (state .exit)) ⌝ }
+// What a line that is too long is answered; of a remark nothing is said.
+fn too_long(buf: &[u8], manner: Manner, course: Course, out: &mut [u8; ANSWER]) -> Course {
+    if manner.echoes {
+        if !echo(buf, out) {
+            return course.broken();
+        }
+    }
+    if is_remark(buf) {
+        return course.goes();
+    }
+    let n = put(out, 0, b"error the line is longer than 2048 bytes\n");
+    let told = Said {
+        n,
+        next: Next::Goes,
+    };
+    take_in(course, told, 0, out)
+}
+
+// What is left in a full buffer without a line end: of a remark its mark, so that its rest is a remark too; of any other line nothing.
+fn after_full(buf: &mut [u8], ended: bool) -> Input {
+    if ended {
+        return Input::ended();
+    }
+    if is_remark(buf) {
+        if 0 < buf.len() {
+            buf[0] = b'#';
+            return Input {
+                end: 1,
+                skipping: false,
+                done: false,
+            };
+        }
+    }
+    Input::skipped()
+}
+
+// What is read of the next line, and how it has gone.
+struct Turn {
+    input: Input,
+    course: Course,
+}
+
+// The end of the input: its last line may have no line end.
+fn at_end(
+    buf: &mut [u8],
+    end: usize,
+    skipping: bool,
+    failed: bool,
+    held: &mut [u8; LINE],
+    manner: Manner,
+    course: Course,
+    kind: Kind,
+    path: &[u8],
+    state: &mut [u8; STATE],
+    out: &mut [u8; ANSWER],
+) -> Turn
+    requires { ⌜ end ≤ length (now buf) ⌝ }
+    ensures { λ _. ⌜ Served (now (state .entry)) (now (state .exit)) ⌝ }
+{
+    if failed {
+        text::warn(b"desk: the input cannot be read\n");
+        return Turn {
+            input: Input::ended(),
+            course: course.broken(),
+        };
+    }
+    if end == 0 {
+        return Turn {
+            input: Input::ended(),
+            course,
+        };
+    }
+    let gone = one_line(
+        buf,
+        skipping,
+        0,
+        end,
+        held,
+        manner,
+        course,
+        kind,
+        path,
+        state,
+        out,
+    );
+    Turn {
+        input: Input::ended(),
+        course: gone,
+    }
+}
+
+// Answers the whole lines of the first `full` bytes, and keeps the rest.
+fn answer_read(
+    buf: &mut [u8],
+    full: usize,
+    skipping: bool,
+    held: &mut [u8; LINE],
+    manner: Manner,
+    course: Course,
+    kind: Kind,
+    path: &[u8],
+    state: &mut [u8; STATE],
+    out: &mut [u8; ANSWER],
+) -> Turn
+    requires { ⌜ full ≤ length (now buf) ⌝ }
+    ensures { λ _. ⌜ Served (now (state .entry)) (now (state .exit)) ⌝ }
+{
+    unmark(buf, course.begun);
+    let lines = answer_lines(
+        buf,
+        full,
+        skipping,
+        held,
+        manner,
+        course,
+        kind,
+        path,
+        state,
+        out,
+    );
+    let gone = lines.course;
+    if gone.ended {
+        return Turn {
+            input: Input::ended(),
+            course: gone,
+        };
+    }
+    Turn {
+        input: keep_rest(buf, lines.at, full, skipping),
+        course: gone,
+    }
+}
+
+// Reads once, and answers each line that is then whole.
+fn turned(
+    buf: &mut [u8],
+    from: Input,
+    held: &mut [u8; LINE],
+    manner: Manner,
+    course: Course,
+    kind: Kind,
+    path: &[u8],
+    state: &mut [u8; STATE],
+    out: &mut [u8; ANSWER],
+) -> Turn
+    ensures { λ _. ⌜ Served (now (state .entry)) (now (state .exit)) ⌝ }
 {
     let end = from.end;
     let skipping = from.skipping;
     if buf.len() <= end {
-        text::line(b"error the line is longer than 2048 bytes\n");
-        return Input::skipped();
+        let gone = too_long(buf, manner, course, out);
+        return Turn {
+            input: after_full(buf, gone.ended),
+            course: gone,
+        };
     }
-    let got = libc::read(0, &mut buf[end..]);
+    let got = read_again(STDIN_FILENO, &mut buf[end..]);
     let n = io::count(got, &buf[end..]);
     if n == 0 {
-        let start = line_start(skipping, 0, end);
-        answer(&buf[start..end], kind, path, state);
-        return Input::ended();
+        return at_end(
+            buf,
+            end,
+            skipping,
+            got < 0,
+            held,
+            manner,
+            course,
+            kind,
+            path,
+            state,
+            out,
+        );
     }
-    let full = end + n;
-    let start = answer_lines(buf, full, skipping, kind, path, state);
-    keep_rest(buf, start, full, skipping)
+    answer_read(
+        buf,
+        end + n,
+        skipping,
+        held,
+        manner,
+        course,
+        kind,
+        path,
+        state,
+        out,
+    )
 }
 
-// Room for a line of 2,048 bytes and its end. A proved loop has to end, and nothing says that an input does: so it counts its
-// turns down, from a number that no run uses up.
-pub fn serve(kind: Kind, path: &[u8], state: &mut [u8; STATE])
-    ensures { λ _. ⌜ Reached (now (state .entry)) (now (state .exit)) ⌝ }
+// The status of a run. Of one that a person typed only a box, an input or an output that could not be used is told.
+fn status_of(manner: Manner, course: Course) -> u8 {
+    if manner.asks {
+        if course.status == NOT_OK {
+            return FINE;
+        }
+    }
+    course.status
+}
+
+// Serves the lines of standard input: the status. A proved loop has to end, and nothing says that an input does: so it counts its turns
+// down, from a number that no run uses up.
+pub fn serve(manner: Manner, kind: Kind, path: &[u8], state: &mut [u8; STATE]) -> u8
+    ensures { λ _. ⌜ Served (now (state .entry)) (now (state .exit)) ⌝ }
 {
-    let mut buf = [0u8; 2049];
+    let mut out = io::large_buffer();
+    let mut held = [0u8; LINE];
+    let mut buf = [0u8; LINE];
     let mut at = Input::begun();
+    let mut gone = Course::new(manner.bails);
     let mut turns = u64::MAX;
     while turns > 0 {
-        at = turn(&mut buf, at, kind, path, state);
+        let done = turned(
+            &mut buf,
+            at,
+            &mut held,
+            manner,
+            gone,
+            kind,
+            path,
+            state,
+            &mut out,
+        );
+        at = done.input;
+        gone = done.course;
         if at.done {
-            return;
+            return status_of(manner, gone);
         }
         turns -= 1;
     }
+    UNUSABLE
 }

@@ -1,11 +1,11 @@
--- What `load` says of the state, and the name beside the file's. Assumes nothing.
+-- What `load` says of the state. Assumes nothing.
 use Prim.Native.Nat.{ℕ}
 use mathlib.Core.Path.{_≡_}
 use mathlib.Core.Bool.{cond}
-use mathlib.Core.List.{List, [], _∷_, _++_}
+use mathlib.Core.List.{List}
 use lib.Dec.{eqb}
-use Rattle.store.specs.declared.Loaded.{Loaded}
-use Rattle.store.specs.declared.Loaded.the-variants.{Missing, Whole, Wrong, Unread}
+use Rattle.store.specs.declared.files.Loaded.{Loaded}
+use Rattle.store.specs.declared.files.Loaded.the-variants.{Missing, Whole, Wrong, Unread}
 use Rattle.layout.specs.Sections.{stateLength}
 
 -- unless the file was whole, the state is as it was
@@ -18,10 +18,3 @@ Kept (Unread why) before after = after ≡ before
 -- a file is a state's exactly where it has as many bytes as a state
 abbrev pub ofLength : ℕ → Loaded
 ofLength n = cond (eqb n stateLength) Whole Wrong
-
--- `.new`, and a path with it at its end
-abbrev pub dotNew : List ℕ
-dotNew = 46 ∷ 110 ∷ 101 ∷ 119 ∷ []
-
-unfoldable pub newName : List ℕ → List ℕ
-newName path = path ++ dotNew

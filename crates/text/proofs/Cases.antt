@@ -5,6 +5,7 @@ use Rattle.text.specs.Nibble.{nibbleOf}
 use Rattle.text.specs.Words.{runEnd}
 use Rattle.text.specs.Number.{readUpTo, readWord, takeAt}
 use Rattle.text.specs.Hex.{hexUpTo, got, hexAt}
+use Rattle.text.specs.Lines.{endFrom, lineEnd, joinFrom, joined}
 use Rattle.text.specs.declared.number.Read.the-variants.{Value, Large, Other}
 use Rattle.text.specs.declared.number.Take.the-variants.{Number, NotANumber, End}
 use Rattle.text.specs.declared.hex.Hex.the-variants as hex
@@ -51,3 +52,25 @@ strange = refl
 no-word : hexAt (32 ∷ []) 0 (7 ∷ 8 ∷ 9 ∷ []) ≡ got hex.End (7 ∷ 8 ∷ 9 ∷ [])
 unfolding runEnd nibbleOf hexUpTo
 no-word = refl
+
+-- a line that goes on after `\` and `\n`, and after `\`, `\r` and `\n`; a line that ends at `\r`; a remark
+goes-on : lineEnd (97 ∷ 92 ∷ 10 ∷ 98 ∷ 10 ∷ []) ≡ 4
+unfolding endFrom runEnd nibbleOf
+goes-on = refl
+
+goes-on-past-two : lineEnd (97 ∷ 92 ∷ 13 ∷ 10 ∷ 98 ∷ 10 ∷ []) ≡ 5
+unfolding endFrom runEnd nibbleOf
+goes-on-past-two = refl
+
+at-return : lineEnd (97 ∷ 13 ∷ 10 ∷ []) ≡ 1
+unfolding endFrom runEnd nibbleOf
+at-return = refl
+
+remark-ends : lineEnd (32 ∷ 35 ∷ 92 ∷ 10 ∷ 98 ∷ 10 ∷ []) ≡ 3
+unfolding endFrom runEnd nibbleOf
+remark-ends = refl
+
+-- `a\`, `\r`, `\n`, `b\c`
+three-spaces : joined (97 ∷ 92 ∷ 13 ∷ 10 ∷ 98 ∷ 92 ∷ 99 ∷ []) ≡ 97 ∷ 32 ∷ 32 ∷ 32 ∷ 98 ∷ 92 ∷ 99 ∷ []
+unfolding joinFrom
+three-spaces = refl

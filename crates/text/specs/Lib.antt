@@ -3,3 +3,4 @@ pub mod Words
 pub mod Number
 pub mod Hex
 pub mod Put
+pub mod Lines

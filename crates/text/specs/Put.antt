@@ -11,8 +11,12 @@ pub record Line : Type 0 where
   pub next : ℕ
   pub bytes : List ℕ
 
+-- as many bytes as an answer has room for
+abbrev pub answerLength : ℕ
+answerLength = 65536
+
 -- all of it where it fits, and otherwise nothing
 abbrev pub putAt : List ℕ → ℕ → List ℕ → Line
 putAt out at w =
-    cond (leb (at + length w) 1024) (record { next = at + length w; bytes = paste out at w (length w) })
+    cond (leb (at + length w) answerLength) (record { next = at + length w; bytes = paste out at w (length w) })
     (record { next = at; bytes = out })

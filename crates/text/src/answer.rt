@@ -1,11 +1,16 @@
-// Answers: a line is gathered in a lent array and written in one call. What does not fit is left out whole, so nothing that
+// Answers: an answer is gathered whole in a lent array and written at its end. What does not fit is left out whole, so nothing that
 // is called from outside has a `requires`.
 ghost use mathlib.Core.Path.{_≡_};
 ghost use Prim.Native.Nat.{_+_, _≤_};
 ghost use lib.ListN.{length};
 ghost use lib.Seq.{paste};
 ghost use Rattle.text.specs.Put.{putAt};
+use crate::moved::write_whole;
+use libc::STDERR_FILENO;
 use libc::STDOUT_FILENO;
+
+// More than any answer has.
+pub const ANSWER: usize = 65536;
 
 // Copies all of src into dst from index at on, and gives the index after it.
 fn copy_in(src: &[u8], dst: &mut [u8], at: usize) -> usize
@@ -21,20 +26,20 @@ fn copy_in(src: &[u8], dst: &mut [u8], at: usize) -> usize
 }
 
 // Puts a text at a place, and gives the place after it; where there is no room, the place.
-pub fn put(out: &mut [u8; 1024], at: usize, w: &[u8]) -> usize
+pub fn put(out: &mut [u8; ANSWER], at: usize, w: &[u8]) -> usize
     ensures { λ r. ⌜ (r ≡ putAt (now (out .entry)) at (now (w .entry)) .next) × (now (out .exit) ≡ putAt (now (out .entry)) at (now (w .entry)) .bytes) ⌝ }
 {
-    if 1024 < at {
+    if ANSWER < at {
         return at;
     }
-    if 1024 - at < w.len() {
+    if ANSWER - at < w.len() {
         return at;
     }
     copy_in(w, out, at)
 }
 
 // A text, and a number in decimal after it.
-pub fn put_named(out: &mut [u8; 1024], at: usize, what: &[u8], n: u64) -> usize {
+pub fn put_named(out: &mut [u8; ANSWER], at: usize, what: &[u8], n: u64) -> usize {
     let a = put(out, at, what);
     let mut digits = [0u8; 20];
     let k = io::decimal(n, &mut digits);
@@ -42,7 +47,7 @@ pub fn put_named(out: &mut [u8; 1024], at: usize, what: &[u8], n: u64) -> usize 
 }
 
 // Bytes as two hexadecimal digits each, in lower case.
-pub fn put_hex(out: &mut [u8; 1024], at: usize, bytes: &[u8]) -> usize {
+pub fn put_hex(out: &mut [u8; ANSWER], at: usize, bytes: &[u8]) -> usize {
     let mut to = at;
     let mut i = 0;
     while i < bytes.len() {
@@ -54,49 +59,51 @@ pub fn put_hex(out: &mut [u8; 1024], at: usize, bytes: &[u8]) -> usize {
     to
 }
 
-fn send_part(out: &[u8], n: usize) {
+fn send_part(out: &[u8], n: usize) -> bool {
     if n <= out.len() {
-        io::write_all(STDOUT_FILENO, &out[0..n]);
+        return write_whole(STDOUT_FILENO, &out[0..n]);
     }
+    false
 }
 
-// Writes the first n bytes that were gathered. Nobody is left to tell where that fails.
-pub fn send(out: &[u8; 1024], n: usize) {
-    send_part(out, n);
+// Writes the first n bytes that were gathered: whether all were taken.
+pub fn send(out: &[u8; ANSWER], n: usize) -> bool {
+    send_part(out, n)
 }
 
-// Writes a fixed text, which has its line end.
-pub fn line(w: &[u8]) {
-    io::write_all(STDOUT_FILENO, w);
+// A line for the person at the desk, beside the answers; nobody is left to tell where it cannot be written.
+pub fn warn(w: &[u8]) {
+    write_whole(STDERR_FILENO, w);
 }
 
-// A line that is no command: what is wrong with it, and in which column. Columns are counted from 1.
-pub fn wrong(what: &[u8], at: usize) {
-    let mut out = [0u8; 1024];
-    let a = put(&mut out, 0, b"error ");
-    let b = put(&mut out, a, what);
-    let c = put_named(
-        &mut out,
-        b,
+// `, column N`, and the line's end. Columns are counted from 1.
+fn put_column(out: &mut [u8; ANSWER], to: usize, at: usize) -> usize {
+    let a = put_named(
+        out,
+        to,
         b", column ",
         std::num::wrapping_add_u64(at as u64, 1),
     );
-    let d = put(&mut out, c, b"\n");
-    send(&out, d);
+    put(out, a, b"\n")
+}
+
+// The answer to a line that is no command: what is wrong with it, and in which column.
+pub fn wrong(out: &mut [u8; ANSWER], what: &[u8], at: usize) -> usize {
+    let a = put(out, 0, b"error ");
+    let b = put(out, a, what);
+    put_column(out, b, at)
 }
 
 // The same, with a number in what is wrong.
-pub fn wrong_number(before: &[u8], n: u64, after: &[u8], at: usize) {
-    let mut out = [0u8; 1024];
-    let a = put(&mut out, 0, b"error ");
-    let b = put_named(&mut out, a, before, n);
-    let c = put(&mut out, b, after);
-    let d = put_named(
-        &mut out,
-        c,
-        b", column ",
-        std::num::wrapping_add_u64(at as u64, 1),
-    );
-    let e = put(&mut out, d, b"\n");
-    send(&out, e);
+pub fn wrong_number(
+    out: &mut [u8; ANSWER],
+    before: &[u8],
+    n: u64,
+    after: &[u8],
+    at: usize,
+) -> usize {
+    let a = put(out, 0, b"error ");
+    let b = put_named(out, a, before, n);
+    let c = put(out, b, after);
+    put_column(out, c, at)
 }

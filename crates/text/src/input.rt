@@ -1,6 +1,10 @@
 // The bytes of a line that are read so far.
-ghost use Prim.Native.Nat.{_≤_};
+ghost use mathlib.Core.Path.{_≡_};
+ghost use Prim.Native.Nat.{_+_, _≤_};
 ghost use lib.ListN.{length};
+ghost use Rattle.text.specs.Lines.{lineEnd, between, joinedIn};
+use crate::lines::join;
+use crate::lines::line_end;
 
 pub struct Input {
     // How many bytes of the next line stand at the start of the buffer.
@@ -39,16 +43,17 @@ impl Input {
 // The place of the next line end, or `full` where there is none.
 pub fn next_end(buf: &[u8], start: usize, full: usize) -> usize
     requires { ⌜ (start ≤ full) × (full ≤ length (now buf)) ⌝ }
-    ensures { λ r. ⌜ (start ≤ r) × (r ≤ full) ⌝ }
+    ensures { λ r. ⌜ ((start ≤ r) × (r ≤ full)) × (r ≡ start + lineEnd (between (now (buf .entry)) start full)) ⌝ }
 {
-    let mut i = start;
-    while i < full {
-        if buf[i] == b'\n' {
-            return i;
-        }
-        i += 1;
-    }
-    i
+    start + line_end(&buf[start..full])
+}
+
+// Makes spaces of each backslash and the line end right after it, from one place to another.
+pub fn join_lines(buf: &mut [u8], from: usize, to: usize)
+    requires { ⌜ (from ≤ to) × (to ≤ length (now buf)) ⌝ }
+    ensures { λ _. ⌜ (length (now (buf .exit)) ≡ length (now (buf .entry))) × (now (buf .exit) ≡ joinedIn (now (buf .entry)) from to) ⌝ }
+{
+    join(&mut buf[from..to]);
 }
 
 // What is left after the whole lines, moved to the start of the buffer. Of a line that was too long nothing is kept.

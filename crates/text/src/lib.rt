@@ -2,20 +2,27 @@
 mod answer;
 mod hex;
 mod input;
+mod lines;
+mod moved;
 mod number;
 
-pub use answer::line;
+pub use answer::ANSWER;
 pub use answer::put;
 pub use answer::put_hex;
 pub use answer::put_named;
 pub use answer::send;
+pub use answer::warn;
 pub use answer::wrong;
 pub use answer::wrong_number;
 pub use hex::Hex;
 pub use hex::take_hex;
 pub use input::Input;
+pub use input::join_lines;
 pub use input::keep_rest;
 pub use input::next_end;
+pub use lines::control_at;
+pub use moved::read_again;
+pub use moved::write_whole;
 pub use number::Take;
 pub use number::take_number;
 ghost use mathlib.Core.Path.{_≡_};

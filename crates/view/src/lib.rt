@@ -1,30 +1,27 @@
-// Answers and the state as lines of text. The first line of an answer begins at the margin, further lines with two spaces.
+// Answers and the state as lines of text, put into an answer that is lent. The first line of an answer begins at the margin, further
+// lines with two spaces. Each function gives the place after what it put.
 mod answer;
+mod form;
 mod refusal;
 mod state;
 
 pub use answer::bid;
 pub use answer::report;
 pub use answer::result;
+use form::put_form;
+use form::put_line;
 pub use refusal::refused;
 use rules::Phase;
 pub use state::show;
+use text::ANSWER;
 use text::put;
-use text::put_named;
 
-fn put_phase(out: &mut [u8; 1024], at: usize, phase: Phase) -> usize {
+// `ok PHASE`, without its end.
+fn put_phase(out: &mut [u8; ANSWER], phase: Phase) -> usize {
     match phase {
-        Phase::Issued => put(out, at, b"issued"),
-        Phase::Open => put(out, at, b"open"),
-        Phase::Closed => put(out, at, b"closed"),
-        Phase::Stopped => put(out, at, b"stopped"),
+        Phase::Issued => put(out, 0, b"ok issued"),
+        Phase::Open => put(out, 0, b"ok open"),
+        Phase::Closed => put(out, 0, b"ok closed"),
+        Phase::Stopped => put(out, 0, b"ok stopped"),
     }
-}
-
-// ` A B C D`: one product of a bid, or of a bidder.
-fn put_four(out: &mut [u8; 1024], at: usize, a: u64, b: u64, c: u64, d: u64) -> usize {
-    let to_b = put_named(out, at, b" ", a);
-    let to_c = put_named(out, to_b, b" ", b);
-    let to_d = put_named(out, to_c, b" ", c);
-    put_named(out, to_d, b" ", d)
 }
