@@ -1,6 +1,6 @@
 // The journal beside a box: a line `SUM ANSWER: GIVEN` for each accepted call that changed the state. SUM is SHA-256, in hexadecimal
 // digits, of the sum of the line before (64 zeros before the first), of the rest of the line with its end, and of the state after it:
-// so the last sum stands for the whole auction. Whole lines are never taken out again.
+// so the last sum stands for the whole auction. Whole lines stay, but for those of a call that could not be saved and was not answered ok.
 ghost use mathlib.Core.Bool.{true};
 ghost use mathlib.Core.List.{_++_};
 ghost use mathlib.Core.Path.{_≡_};
