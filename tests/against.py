@@ -1,6 +1,6 @@
 #!/usr/bin/env python3
 """Plays random auctions in the desk and in tests/model.py, compares every answer and every box, and says how often each command
-was answered how.
+was answered how, which remarks were met how often, and which never. Of help the first line is compared.
 
     tests/against.py [SESSIONS [BOXES [SEED]]]
 
@@ -11,6 +11,7 @@ import collections
 import glob
 import os
 import random
+import re
 import subprocess
 import sys
 import tempfile
@@ -23,36 +24,80 @@ ROOT = os.path.dirname(os.path.dirname(os.path.abspath(__file__)))
 DESK = os.environ.get('DESK', os.path.join(ROOT, 'desk'))
 
 
+class Settings:
+    def __init__(self, rnd):
+        n = rnd.choice([1, 2, 2, 3, 3, 4, 5, 8])
+        m = rnd.choice([1, 2, 3, 3, 4, 4, 5, 6, 8, 12, 32])
+        most = rnd.choice([1, 2, 2, 3, 3, 4, 6, 10, 30, 200])
+        self.targets = sorted((rnd.randint(1, most) for _ in range(n)), reverse=True)
+        self.caps = [t if rnd.random() < .6 else rnd.randint(1, t) for t in self.targets]
+        price = rnd.choice([1, 2, 5, 20, 300, 1000, 14500, 99999])
+        self.prices = [price if rnd.random() < .5 else rnd.randint(1, price) for _ in range(n)]
+        volume = sum(self.targets)
+        self.statewide = volume if rnd.random() < .3 else rnd.randint(1, volume)
+        self.eligible = [self.statewide if rnd.random() < .4 else rnd.randint(1, self.statewide) for _ in range(m)]
+        if rnd.random() < .3:  # a thin first round, with room for a cutback; one that makes a product at price 1 too much stops
+            n = rnd.randint(2, 4)
+            self.targets = sorted((rnd.randint(2, 9) for _ in range(n)), reverse=True)
+            self.caps = [rnd.randint(t // 2 + 1, t) for t in self.targets]
+            self.prices = [1 if rnd.random() < .3 else rnd.choice([2, 1000, 14500]) for _ in range(n)]
+            self.statewide = sum(self.targets) * rnd.randint(40, 70) // 100
+            self.eligible = [self.statewide] * rnd.choice([2, 2, 3])
+        elif rnd.random() < .35:  # few bidders for small products, much like setting T: switches are denied, outbid and deemed bid
+            n = rnd.choice([2, 2, 3])
+            self.targets = self.caps = [2] * n
+            self.prices = [1000] * n
+            self.statewide = 2 * n
+            self.eligible = [rnd.choice([2, 3, 3]) for _ in range(rnd.choice([3, 3, 4]))]
+        self.rows, percent = [], 0
+        for _ in range(rnd.randint(1, 8)):
+            self.rows.append([percent, rnd.choice([50, 100, 175, 300, 425, 500, rnd.randint(50, 500)])])
+            percent += rnd.choice([1, 5, 20, 50, 100, 9000])
+            if percent > 60000:
+                break
+
+    def spoil(self, rnd):
+        """One setting out of its limits, or not far from them."""
+        j, i, k = rnd.randrange(len(self.targets)), rnd.randrange(len(self.eligible)), rnd.randrange(len(self.rows))
+        what = rnd.randrange(9)
+        if what == 0:
+            self.targets[j] = rnd.choice([0, 201, self.targets[max(0, j - 1)] + 1, 256, 65536, 4294967295])
+        elif what == 1:
+            self.caps[j] = rnd.choice([0, self.targets[j] + 1, 201, 65536])
+        elif what == 2:
+            self.prices[j] = rnd.choice([0, 100000, 65536, 16777217, 4294967295])
+        elif what == 3:
+            self.statewide = rnd.choice([0, sum(self.targets) + 1, 65536 + self.statewide])
+        elif what == 4:
+            self.eligible[i] = rnd.choice([0, self.statewide + 1, 65536 + self.eligible[i]])
+        elif what == 5:
+            self.rows[k][0] = rnd.choice([self.rows[k][0] + 1, self.rows[max(0, k - 1)][0], 60001, 65536, 4294967295])
+        elif what == 6:
+            self.rows[k][1] = rnd.choice([0, 49, 501, 65536, 4294967295])
+        elif what == 7:  # nothing, or one number, is left for the last row
+            self.rows = [[0, 100], [rnd.choice([59998, 59999, 60000]), 100], [rnd.choice([5, 60000, 60001, 65536]), 100]]
+        else:
+            self.targets[j], self.caps[j] = 1, rnd.choice([1, 2])
+
+    def line(self, rnd):
+        words = ['open', rnd.choice(['kwh', 'mwday']), self.statewide]
+        often = rnd.choice([0, 0, 0, .5, 1])  # how often the key word stands before a further group
+        products = list(zip(self.targets, self.caps, self.prices))
+        for key, groups in (('product', products), ('bidder', [(e,) for e in self.eligible]), ('row', self.rows)):
+            for k, group in enumerate(groups):
+                words += [key] * (k == 0 or rnd.random() < often)
+                words += group
+        return ' '.join(map(str, words))
+
+
 def opening(rnd):
-    n = rnd.choice([1, 2, 2, 3, 3, 4, 5, 8])
-    m = rnd.choice([1, 2, 3, 3, 4, 4, 5, 6, 8, 12, 32])
-    most = rnd.choice([1, 2, 2, 3, 3, 4, 6, 10, 30, 200])
-    targets = sorted((rnd.randint(1, most) for _ in range(n)), reverse=True)
-    caps = [t if rnd.random() < .6 else rnd.randint(1, t) for t in targets]
-    price = rnd.choice([1, 2, 5, 20, 300, 1000, 14500, 99999])
-    prices = [price if rnd.random() < .5 else rnd.randint(1, price) for _ in range(n)]
-    statewide = sum(targets) if rnd.random() < .3 else rnd.randint(1, sum(targets))
-    eligible = [statewide if rnd.random() < .4 else rnd.randint(1, statewide) for _ in range(m)]
-    if rnd.random() < .3:  # a thin first round, with room for a cutback; one that makes a product at price 1 too much stops
-        n = rnd.randint(2, 4)
-        targets = sorted((rnd.randint(2, 9) for _ in range(n)), reverse=True)
-        caps = [rnd.randint(t // 2 + 1, t) for t in targets]
-        prices = [1 if rnd.random() < .3 else rnd.choice([2, 1000, 14500]) for _ in range(n)]
-        statewide = sum(targets) * rnd.randint(40, 70) // 100
-        eligible = [statewide] * rnd.choice([2, 2, 3])
-    rows, percent = [], 0
-    for _ in range(rnd.randint(1, 8)):
-        rows.append((percent, rnd.choice([50, 100, 175, 300, 425, 500, rnd.randint(50, 500)])))
-        percent += rnd.choice([1, 5, 20, 50, 100, 9000])
-        if percent > 60000:
-            break
-    words = ['open', rnd.choice(['kwh', 'mwday']), statewide]
-    often = rnd.choice([0, 0, 0, .5, 1])  # how often the key word stands before a further group
-    for key, groups in (('product', list(zip(targets, caps, prices))), ('bidder', [(e,) for e in eligible]), ('row', rows)):
-        for k, group in enumerate(groups):
-            words += [key] * (k == 0 or rnd.random() < often)
-            words += group
-    return ' '.join(map(str, words))
+    return Settings(rnd).line(rnd)
+
+
+def spoiled_opening(rnd):
+    settings = Settings(rnd)
+    settings.spoil(rnd)
+    return settings.line(rnd)
 
 
 def good_bid(rnd, a, i):
@@ -69,7 +114,7 @@ def good_bid(rnd, a, i):
         elif a.ticked(j):
             b.append(g if move < .5 else max(0, g - rnd.choice([1, 1, 2, 3, g])) if move < .85 else rnd.randint(0, top))
         else:
-            b.append(g if move < .5 else min(max(g, top), g + rnd.choice([1, 1, 2, 3])))
+            b.append(g if move < (.2 if own[j].d else .5) else min(max(g, top), g + rnd.choice([1, 1, 2, 3])))
     order = list(range(n))
     rnd.shuffle(order)
     for j in order:
@@ -115,6 +160,117 @@ def spoiled_fields(rnd, a, lines):
     return lines
 
 
+def against_a_rule(rnd, a, i, lines):
+    """A bid against one of the rules 8 to 13, as far as the auction has room for that."""
+    lines = [list(l) for l in lines]
+    own, places = a.record[i], list(range(a.products))
+    rnd.shuffle(places)
+    reduced = [j for j in places if lines[j][0] < own[j].g]
+    raised = [j for j in places if lines[j][0] > own[j].g]
+    withdrawn = [j for j in places if lines[j][1] > 0]
+    fixed = [j for j in places if own[j].g > 0 and not a.ticked(j)]
+    switched = any(l[3] for l in lines)
+    what = rnd.choice(['cap', 'room'] + ['fixed'] * 3 * bool(fixed) + ['more', 'exit', 'priority'] + ['less', 'price'] * bool(withdrawn)
+                      + ['others', 'numbers', 'numbers'] * 2 * switched + ['numbers'] * 30 * (switched and len(raised) > 1))
+    if what == 'cap':
+        j = places[0]
+        lines[j][0] = a.cap[j] - own[j].d - own[j].r + rnd.choice([1, 1, 2])
+    elif what == 'fixed':
+        lines[fixed[0]][0] = own[fixed[0]].g - 1
+    elif what == 'room':
+        for j in places:
+            lines[j][0] = a.cap[j] - own[j].d - own[j].r
+    elif what == 'more':
+        lines[(reduced or places)[0]][1] += 1
+    elif what == 'less':
+        lines[withdrawn[0]][1] -= 1
+    elif what == 'price':
+        j = withdrawn[0]
+        lines[j][2] = rnd.choice([0, a.p[j], a.q[j] + 1, 131071])
+    elif what == 'exit':
+        for j in [j for j in places if j not in withdrawn][:1]:
+            lines[j][2] = rnd.choice([1, a.p[j], a.q[j]])
+    elif what in ('priority', 'others'):
+        for j in [j for j in places if j not in raised][:1]:
+            lines[j][3] = rnd.randint(1, 7)
+    else:
+        same = len(raised) > 1 and rnd.random() < .8
+        for j in raised if same else raised[:1]:
+            lines[j][3] = 1 if same else rnd.choice([0, 2, 7])
+    return lines
+
+
+def spoiled_card(rnd, a, i, lines):
+    """A card of another length, bidder or round, or with filling bits."""
+    what = rnd.randrange(5)
+    round = a.round + (rnd.choice([-1, 1]) if what == 0 else 0)
+    bidder = rnd.randint(min(31, a.bidders), 31) if what == 1 else i
+    card = bytearray(model.write_card(a.products, bidder, round, model.groups(sum(lines, []))))
+    if what == 2:
+        card = card[:rnd.randint(1, len(card) - 1)]
+    elif what == 3:
+        card += bytes(rnd.randint(1, 9))
+    elif what == 4:
+        card[-1] |= 1 << rnd.randrange(3)
+    return 'file ' + bytes(card).hex()
+
+
+def large_fields(rnd, a, i, lines):
+    """A bid of which one field does not fit its bits."""
+    lines = [list(l) for l in lines]
+    j, k = rnd.randrange(len(lines)), rnd.randrange(5)
+    if k == 4:
+        return bid_line(rnd.choice([32, 255, 256, 4294967295]), lines)
+    lines[j][k] = rnd.choice(([256, 65536], [256, 65536], [131072, 4294967295], [8, 255, 256])[k])
+    return bid_line(i, lines)
+
+
+def wrong_draw(rnd, m):
+    """A draw order that is mostly wrong, in one or more ways."""
+    draw = list(range(m))
+    rnd.shuffle(draw)
+    for _ in range(rnd.choice([1, 1, 1, 2, 3])):
+        what = rnd.randrange(4)
+        if what == 0 and draw:
+            draw.pop()
+        elif what == 1 and draw:
+            draw.insert(rnd.randrange(len(draw) + 1), rnd.choice(draw))
+        elif what == 2:
+            draw.insert(rnd.randrange(len(draw) + 1), rnd.choice([m, m + 1, 31, 32, 254, 255, 256, 65536, 4294967295]))
+        elif draw:
+            draw[rnd.randrange(len(draw))] = rnd.choice([0, m - 1, m, 255])
+    if rnd.random() < .1:
+        draw += [rnd.choice([0, m]) for _ in range(rnd.choice([40, 41]) - len(draw))]
+    return ' '.join(['calculate'] + list(map(str, draw)))
+
+
+GIVEN = ['Alpha', 'Beta', 'Beta', 'a', 'A  B', 'PSE&G', 'Z\u00fcrich', '- -', '0', 'bidder 0', 'x' * 24, '\u00e9' * 12, '-', '-', '{0}',
+         '#', 'all']
+
+
+def name_line(rnd, a):
+    """Mostly a name for a bidder or a product."""
+    kind = rnd.choice(['bidder', 'bidder', 'product'])
+    n = rnd.randrange(a.bidders if kind == 'bidder' else a.products)
+    line = 'name %s %d %s' % (kind, n, rnd.choice(GIVEN))
+    if rnd.random() < .8:
+        return line
+    far = rnd.choice([a.bidders, a.products, 8, 32, 4294967295, 4294967296])
+    rest = rnd.choice(['', '   ', 'y' * rnd.choice([25, 26, 300]), '\u00e9' * 13, '(A', 'A)', 'A (B) C', '  A B  \t'])
+    return rnd.choice(['name', 'name ', 'name all 0 A', 'name ' + kind, 'name %s x A' % kind, 'name %s -' % kind,
+                       'name %s %d A' % (kind, far), 'NAME bidder 0 A', 'names 0', 'names all', spoiled_text(rnd, line)]
+                      + 6 * ['  name   %s  0%d %s' % (kind, n, rest)])
+
+
+def new_line(rnd, a):
+    """One of the commands that look at who has filed, or of those for names."""
+    i = rnd.randrange(a.bidders)
+    wrong = rnd.choice(['missing 0', 'filed x', 'filed 0 1', 'filed all', 'report all 0', 'report ALL', 'report alls', 'filed 4294967296'])
+    return rnd.choice(['missing', 'missing', 'filed', 'filed', 'filed %d' % i, 'filed %d' % i, 'filed %d' % i,
+                       'filed %d' % rnd.choice(NUMBERS), 'report all', 'report all', 'names', name_line(rnd, a), name_line(rnd, a),
+                       name_line(rnd, a), wrong])
+
+
 def good_cutback(rnd, a):
     """Revised targets and caps, two numbers a product, of which none is against a rule."""
     n = a.products
@@ -134,11 +290,14 @@ def good_cutback(rnd, a):
 
 def spoiled_cutback(rnd, a, numbers):
     numbers = list(numbers)
+    if rnd.random() < .3:  # too small a volume
+        return [1] * len(numbers)
     for _ in range(rnd.choice([1, 1, 2])):
         k = rnd.randrange(len(numbers))
         j = k // 2
         before = a.cap[j] if k % 2 else a.target[j]
-        numbers[k] = rnd.choice([0, before, before + 1, max(0, numbers[k] - 1), numbers[k] + 1, numbers[2 * j], rnd.choice(NUMBERS)])
+        numbers[k] = rnd.choice([0, 0, before, before + 1, before + 1, numbers[max(0, 2 * j - 2)] + 1, max(0, numbers[k] - 1),
+                                 numbers[k] + 1, numbers[2 * j] + k % 2, rnd.choice(NUMBERS)])
     return numbers
 
 
@@ -149,7 +308,7 @@ def cutback_line(numbers):
 def cutback(rnd, a):
     """A cutback in the auction: mostly one that may be given in round 2, and at times a wrong one or a line that is none."""
     numbers = good_cutback(rnd, a)
-    if rnd.random() < .35:
+    if rnd.random() < .5:
         numbers = spoiled_cutback(rnd, a, numbers)
     line = cutback_line(numbers)
     return spoiled_text(rnd, line) if rnd.random() < .08 else line
@@ -202,8 +361,17 @@ def some_card(rnd, n):
 
 
 def loose_line(rnd):
-    what = rnd.randrange(9)
+    what = rnd.randrange(11)
     n = rnd.choice([1, 2, 3, 4, 5, 6, 7, 8, 8, 0, 9, 256])
+    if what >= 9:  # one field too large for its bits, or not 0 past the count
+        k = rnd.randint(1, 8)
+        fields = [rnd.randrange(32), rnd.randrange(4096)]
+        for _ in range(k):
+            fields += [rnd.randrange(256), rnd.randrange(3), rnd.randrange(131072), rnd.randrange(8)]
+        at = rnd.randrange(len(fields))
+        most = [31, 4095][at] if at < 2 else [255, 255, 131071, 7][(at - 2) % 4]
+        fields[at] = rnd.choice([most + 1, most + 1, 2 * most + 1, 65536, 4294967295])
+        return 'write %d ' % rnd.choice([k, k, k, rnd.randint(1, k)]) + ' '.join(map(str, fields))
     if what == 0:
         return 'read %d %s' % (n, some_card(rnd, n if 1 <= n <= 8 else 1).hex())
     if what == 1:
@@ -221,9 +389,10 @@ def loose_line(rnd):
     if what == 4:
         return 'file ' + bytes(rnd.randrange(256) for _ in range(rnd.choice([0, 1, 7, 12, 16, 21, 39, 40, 500, 1021]))).hex()
     if what == 5:
-        return rnd.choice(['', '   ', '# remark', '  # remark', 'help', 'nothing', 'open', 'bid', 'file', 'read', 'write', 'count 0',
-                           'cutback', 'suggest', 'suggest 1', 'undo', 'undo 1', 'bail', 'bail off', 'bail on 1', 'quit 1', 'exit now',
-                           '# remark \\\ncount', 'count\rcount', 'show\\ ', '\\ '])
+        return rnd.choice(['', '   ', '# remark', '  # remark', 'help', '?', 'help bid', '? open', 'help units', 'help nothing',
+                           'help bid 1', '?? ', 'nothing', 'missing', 'filed', 'names', 'report all', 'name bidder 0 A', 'open', 'bid',
+                           'file', 'read', 'write', 'count 0', 'cutback', 'suggest', 'suggest 1', 'undo', 'undo 1', 'bail', 'bail off',
+                           'bail on 1', 'quit 1', 'exit now', '# remark \\\ncount', 'count\rcount', 'show\\ ', '\\ '])
     if what == 6:
         line = 'suggest %d %d' % (rnd.choice(NUMBERS + [51199, 51200, 51201, rnd.randrange(51201), rnd.randrange(51201)]),
                                   rnd.choice(NUMBERS + [100, 125, 133, 150, rnd.randint(1, 400), rnd.randint(1, 400)]))
@@ -245,8 +414,18 @@ def session(rnd, desk, lines, answers, states):
         answers.append(desk.answers(line.encode()))
         return answers[-1]
     say('return')
-    while say(opening(rnd)) != ['ok']:
+    if rnd.random() < .3:
+        say(rnd.choice(['missing', 'filed', 'filed 0', 'report all', 'names', 'name bidder 0 A', 'count', 'calculate 0', 'bid 0 1 0 0 0',
+                        'result']))
+    for _ in range(rnd.choice([0, 1, 2, 3])):
+        say(spoiled_opening(rnd))
+        if any(desk.state):
+            say('return')
+    while say(opening(rnd))[0] != 'ok':
         pass
+    named = rnd.random() < .4
+    for _ in range(rnd.choice([1, 2, 5, 9]) if named else 0):
+        say(name_line(rnd, model.load(desk.state)))
     for _ in range(rnd.choice([2, 4, 8, 15, 25])):
         a = model.load(desk.state)
         if a.phase != model.OPEN:
@@ -270,6 +449,15 @@ def session(rnd, desk, lines, answers, states):
             fields = good_bid(rnd, a, i)
             if rnd.random() < .1:
                 say(bid_line(i, spoiled_fields(rnd, a, fields)))
+            if rnd.random() < (.6 if any(l[3] > 1 for l in fields) else .2):
+                say(bid_line(i, against_a_rule(rnd, a, i, fields)))
+            if rnd.random() < .04:
+                say(large_fields(rnd, a, i, fields))
+            if rnd.random() < .06:
+                try:
+                    say(spoiled_card(rnd, a, i, fields))
+                except model.Refused:
+                    pass
             if rnd.random() < .03:
                 say(spoiled_text(rnd, bid_line(i, fields)))
             if rnd.random() < .2:
@@ -283,6 +471,8 @@ def session(rnd, desk, lines, answers, states):
                 say(bid_line(i, fields))
             if rnd.random() < .03:
                 say(rnd.choice(['count', 'show', 'result', 'report %d' % i, 'report 255']))
+            if rnd.random() < .06:
+                say(new_line(rnd, a))
             if rnd.random() < .02:
                 say(loose_line(rnd))
             if rnd.random() < .01:
@@ -294,11 +484,20 @@ def session(rnd, desk, lines, answers, states):
         line = 'calculate ' + ' '.join(map(str, draw))
         if rnd.random() < .05:
             say(spoiled_text(rnd, line))
+        if rnd.random() < .15:
+            say(wrong_draw(rnd, a.bidders))
+        if rnd.random() < .3:
+            say(new_line(rnd, a))
         say(line)
         for i in rnd.sample(range(a.bidders), min(a.bidders, 3)):
             say('report %d' % i)
         say('show')
+        if rnd.random() < .2:
+            say(rnd.choice(['report all', 'names', name_line(rnd, a), 'missing', 'filed']))
     say('result')
+    if rnd.random() < .3:
+        say(rnd.choice(['missing', 'filed', 'filed 0', 'report all', 'names', name_line(rnd, a), 'bid 0 1 0 0 0', 'calculate 0 1',
+                        opening(rnd)]))
     if rnd.random() < .1:
         say(cutback(rnd, a))
     for _ in range(rnd.randint(0, 3)):
@@ -306,21 +505,79 @@ def session(rnd, desk, lines, answers, states):
     say(spoiled_text(rnd, rnd.choice(['count', 'result', 'show', 'return', 'report 0', 'help', opening(rnd), opening(rnd), opening(rnd)])))
 
 
+# ---- What was met
+
+REMARKS = [(number, re.compile(pattern)) for number, pattern in [
+    (1, 'a box has'), (2, 'only return'), (3, 'the box is issued'), (3, 'the auction is closed'), (3, 'the auction is stopped'),
+    (3, 'no auction is open'), (4, 'bytes, and a card of'), (5, 'its last 3 bits'), (5, 'its last 7 bits'), (6, 'and the bidders are'),
+    (7, 'the card is of round'), (8, 'against'), (9, 'or more are allowed'), (10, 'bid in all'), (11, 'the reduction is'),
+    (11, 'withdrawn in all'), (12, 'the price before'), (12, 'where nothing is withdrawn'), (13, 'where nothing is switched'),
+    (13, 'where nothing is increased'), (13, 'is given 0 times'), (13, 'is given [2-8] times'), (14, 'is unknown'), (14, 'stands'),
+    (14, 'is missing'), (14, 'is unknown, .* stands .* is missing'), (15, 'target'), (15, ', cap'), (15, 'starting price'),
+    (15, 'statewide cap'), (15, 'eligibility'), (15, 'row 0, percentage'), (15, 'row [1-7], percentage'), (15, 'decrement'),
+    (15, 'nothing is allowed'), (15, '; [0-9]+ is allowed'), (16, 'the box is issued'), (16, 'the auction is open'),
+    (16, 'the auction is stopped'), (17, 'an auction is open'), (17, 'an auction is closed'), (17, 'an auction is stopped'), (17, 'byte'),
+    (18, 'round 1'), (20, 'belongs to round 2'), (20, 'has filed'), (20, 'target'), (20, ', cap'), (20, 'tranches in all'),
+    (29, 'products'), (30, ': bidder'), (30, ': round'), (30, 'tranches'), (30, 'withdrawn .* 0 to'), (30, 'exit'), (30, 'priority'),
+    (30, '; 0 is allowed'), (31, 'the ratio is 0'), (31, 'bid; 0 to 51200'), (8, r'\(.*\)'), (14, r'\(.*\)'), (20, r'\(.*\)'),
+    (30, r'product [0-9]+ \('),
+]]
+
+SAID = [re.compile(pattern) for pattern in [
+    'cents per kWh', 'per MW-day', ': [1-9][0-9]* bid, as before', ': 0 bid$', 'up from', 'up from .* priority', 'withdrawn at .* = ',
+    'down from [0-9]+, [0-9]+ switched', 'withdrawn at .*, [0-9]+ switched', 'lapses', 'default bids: none', 'default bids: [0-9]',
+    'excess 0', 'excess [1-9]', 'short', 'price .* next', ', price [0-9]+ = ', 'retained at [0-9]+ =', 'denied, held at',
+    'of the increase cancelled', 'deemed bid', 'denied outbid, free again', 'retained outbid, gone', 'is open$',
+    '^  the auction is closed', '^  the auction is stopped', 'above the cap, free again', 'the box is issued', 'still to file',
+    'every bidder has filed', '^    card', '; retained at', r'default bids: .*\(', r'still to file: .*\(',
+    r'^  bidder [0-9]+ \(.*\) on product [0-9]+ \(.*\): ', '^ok not filed', '^ok [0-9]+ of [0-9]+', 'error name is for',
+    'error a name is missing', 'error a name has at most', 'error a name has no brackets', 'has this name', 'error bidders are',
+    'error products are', 'error names belong',
+]]
+
+
+class Met:
+    """Which remarks and lines were met, and how often."""
+    def __init__(self):
+        self.refusals, self.lines = collections.Counter(), collections.Counter()
+
+    def add(self, said):
+        for line in said:
+            found = re.match('refused ([0-9]+) ', line)
+            if found:
+                refused = int(found.group(1))
+                self.refusals.update(k for k, (number, pattern) in enumerate(REMARKS) if number == refused and pattern.search(line))
+            else:
+                self.lines.update(k for k, pattern in enumerate(SAID) if pattern.search(line))
+
+    def tell(self):
+        remarks = [('%d %s' % (number, pattern.pattern), self.refusals[k]) for k, (number, pattern) in enumerate(REMARKS)]
+        lines = [(pattern.pattern, self.lines[k]) for k, pattern in enumerate(SAID)]
+        for what, met in (('remarks', remarks), ('lines', lines)):
+            print('    %s: %s' % (what, '; '.join('%s: %d' % pair for pair in met if pair[1])))
+            print('    %s never met: %s' % (what, '; '.join(name for name, many in met if not many) or 'none'))
+
+
+# ---- The desk beside the model
+
 def run_desk(text, *args):
-    """What the desk writes, and its status."""
-    done = subprocess.run([DESK, *args], input=text, stdout=subprocess.PIPE)
-    return done.stdout, done.returncode
+    """What the desk writes, what it says beside that, and its status."""
+    done = subprocess.run([DESK, *args], input=text, stdout=subprocess.PIPE, stderr=subprocess.PIPE)
+    return done.stdout, done.stderr.decode(errors='surrogateescape'), done.returncode
 
 
 def differ(lines, answers, got):
-    """The first line of which the answers differ."""
+    """The first line of which the answers differ; None where none does. Of help's answer the first line is compared."""
     at = 0
-    said = got.decode(errors='replace').split('\n')
+    said = got.decode(errors='surrogateescape').split('\n')
     for line, want in zip(lines, answers):
         if said[at:at + len(want)] != want:
             return line, want, said[at:at + len(want) + 1]
         at += len(want)
-    return 'after the last line', [], said[at:]
+        if want == ['ok'] and re.match(r'\s*(help|\?)', line):
+            while said[at:at + 1] and said[at].startswith('  '):
+                at += 1
+    return None if said[at:] == [''] else ('after the last line', [], said[at:])
 
 
 def told(name, wrong):
@@ -331,7 +588,7 @@ def told(name, wrong):
     return not wrong
 
 
-def play(sessions, seed):
+def play(sessions, seed, met):
     """Sessions by tens, each ten in one run of the desk: the tests' results, states met on the way, and how each command was answered."""
     rnd = random.Random(seed)
     results, states = [], []
@@ -341,20 +598,50 @@ def play(sessions, seed):
         last = min(first + 10, sessions)
         for _ in range(first, last):
             session(rnd, desk, lines, answers, states)
-        got, status = run_desk('\n'.join(lines).encode() + rnd.choice([b'\n', b'']))
-        wrong = [] if got == ''.join(s + '\n' for a in answers for s in a).encode() else [differ(lines, answers, got)]
+        got, beside, status = run_desk('\n'.join(lines).encode() + rnd.choice([b'\n', b'']))
+        wrong = [found for found in [differ(lines, answers, got)] if found]
+        if beside:
+            wrong.append('beside the answers: ' + beside)
         if status != desk.status:
             wrong.append('status %d, not %d' % (status, desk.status))
         results.append(told('second model: sessions %d to %d, %d lines' % (first + 1, last, len(lines)), wrong))
         for line, said in zip(lines, answers):
+            met.add(said)
             if said and line.split() and line.split()[0].encode() in model.COMMANDS:
                 words = said[0].split()
                 tally[line.split()[0]][words[1] if words[0] == 'refused' else words[0]] += 1
     return results, states, tally
 
 
+def largest(met):
+    """8 products, 32 bidders, all with names of 24 bytes and the largest numbers: the longest answers."""
+    lines = []
+    for unit, first in (('mwday', 200), ('kwh', 8)):  # 7 of each product by each bidder is too much, and by default all withdrawn
+        rows = ''.join(' %d 500' % k for k in range(8))
+        lines.append('open %s 1600 product' % unit + ' 200 200 99999' * 8 + ' bidder' + ' 1600' * 32 + ' row' + rows)
+        lines += ['name bidder %d %s%02d' % (i, 'B' * 22, i) for i in range(32)]
+        lines += ['name product %d %s%d' % (j, 'P' * 23, j) for j in range(8)]
+        draw = 'calculate ' + ' '.join(map(str, range(32)))
+        for b in (first, first - 1):
+            lines += ['missing'] + ['bid %d' % i + ' %d 0 0 0' % b * 8 for i in range(32)]
+            lines += ['filed', 'filed 31', 'names', 'show', 'calculate 1 1 255', draw, 'report 31', 'report all', 'show', 'missing']
+            if b == first:
+                lines += ['cutback' + ' 200 %d' % b * 8, 'cutback' + ' 200 %d' % (b - 1) * 8]
+        lines += [draw, 'report all', draw, 'result', 'show', 'report all', 'return']
+    desk = model.Desk()
+    answers = [desk.answers(line.encode()) for line in lines]
+    for said in answers:
+        met.add(said)
+    got, beside, status = run_desk('\n'.join(lines).encode() + b'\n')
+    wrong = [found for found in [differ(lines, answers, got)] if found]
+    size = max(sum(len(s) + 1 for s in said) for said in answers)
+    return [told('second model: the longest answers, of up to %d bytes' % size, wrong)]
+
+
 LOOK = ['count', 'report 0', 'report 1', 'result', 'show', 'calculate 0', 'calculate 0 1', 'calculate 1 0 2', 'return', 'file 00',
-        'cutback 1 1', 'undo', 'undo']
+        'cutback 1 1', 'undo', 'undo', 'missing', 'filed', 'filed 0', 'report all', 'names', 'name bidder 0 A', 'name product 0 B',
+        'open kwh 1 product 1 1 1 bidder 1 row 0 100', 'open kwh 1 product 1 1 1 bidder 1 row 0 100']
+NAMED = [b'bidder 0 Alpha\nproduct 0 ACE\n', b'bidder 0 A  B\nbidder 1 Z\xc3\xbcrich\n', b'bidder 1 x\n']
 
 
 def spoiled_state(rnd, state):
@@ -369,12 +656,19 @@ def spoiled_state(rnd, state):
     if rnd.random() < .2:
         state[at['ROUND']:at['ROUND'] + 2] = bytes([0, 2])  # round 2: a later round's state stands there only where nothing is kept
     state = bytes(state)
-    if rnd.random() < .05:
+    if rnd.random() < .1:
         state = state[:rnd.randrange(at['STATE'])] if rnd.random() < .5 else state + bytes(rnd.randint(1, 9))
     return state
 
 
-def boxes(many, seed, states):
+def content(path):
+    if not os.path.exists(path):
+        return b''
+    with open(path, 'rb') as file:
+        return file.read()
+
+
+def boxes(many, seed, states, met):
     """Boxes with bytes changed, each in a run of its own: the tests' results."""
     rnd = random.Random(seed + 1)
     results, wrong, stood = [], [], 0
@@ -382,11 +676,17 @@ def boxes(many, seed, states):
         ours, theirs = os.path.join(folder, 'model'), os.path.join(folder, 'desk')
         for k in range(many):
             state = spoiled_state(rnd, rnd.choice(states))
-            for left in glob.glob(theirs + '.*'):  # what an earlier box had beside it
+            for left in glob.glob(theirs + '.*') + glob.glob(ours + '.*'):  # what an earlier box had beside it
                 os.unlink(left)
             for path in (ours, theirs):
                 with open(path, 'wb') as file:
                     file.write(state)
+            if len(state) == model.LENGTH and any(state) and rnd.random() < .4:
+                names = rnd.choice(NAMED)
+                if model.load(state).bidders >= 2:
+                    for path in (ours, theirs):
+                        with open(path + '.names', 'wb') as file:
+                            file.write(names)
             lines = ['count'] + rnd.sample(LOOK, 4)
             if len(state) == model.LENGTH and 1 <= model.load(state).bidders <= 32 and rnd.random() < .7:
                 draw = list(range(model.load(state).bidders))
@@ -396,17 +696,22 @@ def boxes(many, seed, states):
             if len(state) == model.LENGTH and 1 <= model.load(state).products <= 8 and rnd.random() < .6:
                 lines[1:1] = [cutback(rnd, model.load(state)), 'show']
             desk = model.Desk(ours)
+            start = desk.at_start().replace(ours, theirs) + '\n'
             answers = [desk.answers(line.encode()) for line in lines]
-            want = ''.join(s + '\n' for a in answers for s in a).encode()
-            got, status = run_desk('\n'.join(lines).encode() + b'\n', theirs)
-            stood += not want.startswith((b'refused 2', b'refused 1'))
-            if got != want:
-                wrong.append(('box %d' % (k + 1), lines) + differ(lines, answers, got))
+            got, beside, status = run_desk('\n'.join(lines).encode() + b'\n', theirs)
+            stood += not answers[0][0].startswith(('refused 2', 'refused 1'))
+            for said in answers:
+                met.add(said)
+            found = differ(lines, answers, got)
+            if found:
+                wrong.append(('box %d' % (k + 1), lines) + found)
+            if beside != start:
+                wrong.append(('box %d' % (k + 1), 'at the start', start, beside))
             if status != desk.status:
                 wrong.append(('box %d' % (k + 1), lines, 'status %d, not %d' % (status, desk.status)))
-            with open(ours, 'rb') as one, open(theirs, 'rb') as two:
-                if one.read() != two.read():
-                    wrong.append(('box %d' % (k + 1), lines, 'the bytes differ'))
+            for ending in ('', '.names'):
+                if content(ours + ending) != content(theirs + ending):
+                    wrong.append(('box %d' % (k + 1), lines, 'the bytes differ', ending, content(theirs + ending)[:60]))
             if (k + 1) % 10 == 0 or k + 1 == many:
                 name = 'second model: boxes %d to %d, %d of them standing or issued' % (k // 10 * 10 + 1, k + 1, stood)
                 results.append(told(name, wrong))
@@ -416,10 +721,12 @@ def boxes(many, seed, states):
 
 def main():
     sessions, many, seed = (list(map(int, sys.argv[1:])) + [300, 300, 1][len(sys.argv) - 1:])[:3]
-    results, states, tally = play(sessions, seed)
+    met = Met()
+    results, states, tally = play(sessions, seed, met)
     for command in sorted(tally):
         print('    %s: %s' % (command, ', '.join('%s %d' % pair for pair in sorted(tally[command].items()))))
-    results += boxes(many, seed, states)
+    results += largest(met) + boxes(many, seed, states, met)
+    met.tell()
     print('%d passed, %d failed' % (results.count(True), results.count(False)))
     return 0 if all(results) else 1
 

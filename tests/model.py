@@ -3,11 +3,13 @@
 
     tests/model.py [BOX] < commands > answers
 
-The stored answers of crates/cases, examples/ and tests/box come from here, so that none comes from the program itself. Nothing
-in the gate needs it. The names g, d, r, f, p, q, b, R, I, s and w are document 01's; the bytes are those of docs/LAYOUT.md.
+The stored answers of crates/cases, examples/ and tests/box come from here, so that none comes from the program itself. Of help it has the
+first line only. Nothing in the gate needs it. The names g, d, r, f, p, q, b, R, I, s and w are document 01's; the bytes are those of
+docs/LAYOUT.md. `{bidder 0}`, `{product 0}` and `{0}`, a bidder in a list, stand for these words with the name that was given, if any.
 """
 import os
 import re
+import struct
 import subprocess
 import sys
 
@@ -47,9 +49,30 @@ WORDS = {
 
 
 class Refused(Exception):
-    def __init__(self, number, words=None):
-        self.text = 'refused %d %s' % (number, words or WORDS[number])
+    def __init__(self, number, remark, words=None):
+        self.text = 'refused %d %s: %s' % (number, words or WORDS[number], remark)
         self.number = number
+
+
+def allowed(least, most):
+    if least > most:
+        return 'nothing is allowed'
+    if least == most:
+        return '%d is allowed' % least
+    return '%d to %d is allowed' % (least, most)
+
+
+def listed(bidders):
+    return ', '.join('{%d}' % i for i in bidders)
+
+
+# A number that does not fit the bits that the console has for it is the largest that does.
+def byte(n):
+    return min(n, 255)
+
+
+def pair(n):
+    return min(n, 65535)
 
 
 # ---- What is held
@@ -84,6 +107,31 @@ class Auction:
 
     def has_filed(self, i):
         return self.filed >> i & 1 == 1
+
+    def still_to_file(self):
+        return [i for i in range(self.bidders) if not self.has_filed(i)]
+
+    def who_is_missing(self):
+        missing = self.still_to_file()
+        return 'still to file: ' + listed(missing) if missing else 'every bidder has filed'
+
+    def phase_in_words(self):
+        return 'round %d is open' % self.round if self.phase == OPEN else 'the auction is ' + PHASE[self.phase]
+
+    def the_bidders(self):
+        return 'the bidders are 0 to %d' % (self.bidders - 1)
+
+    # A price as people say it.
+    def people(self, x):
+        if self.unit == 0:
+            return '%d.%03d cents per kWh' % divmod(x, 1000)
+        return '$%d.%02d per MW-day' % divmod(x, 100)
+
+    def price(self, x):
+        return '%d = %s' % (x, self.people(x))
+
+    def units(self):
+        return ('thousandths of a cent per kWh', 'cents per MW-day')[self.unit]
 
     # "Held is g + d + r over all bidders."
     def held(self, j):
@@ -127,12 +175,12 @@ def load(state):
         a.initial[i], a.free[i] = take(2), take(2)
     for k in range(ROWS):
         a.percent[k], a.decrement[k] = take(2), take(2)
+    cells = BIDDERS * PRODUCTS
+    records = [Record(g, d, r, high << 16 | low) for g, d, r, high, low in struct.iter_unpack('>BBBBH', state[at:at + 6 * cells])]
+    lines = [Line(b, w, high << 16 | low, k) for b, w, high, low, k in struct.iter_unpack('>BBBHB', state[at + 6 * cells:at + 12 * cells])]
     for i in range(BIDDERS):
-        for j in range(PRODUCTS):
-            a.record[i][j] = Record(take(1), take(1), take(1), take(3))
-    for i in range(BIDDERS):
-        for j in range(PRODUCTS):
-            a.slot[i][j] = Line(take(1), take(1), take(3), take(1))
+        a.record[i] = records[i * PRODUCTS:(i + 1) * PRODUCTS]
+        a.slot[i] = lines[i * PRODUCTS:(i + 1) * PRODUCTS]
     return a
 
 
@@ -166,26 +214,41 @@ def store(a):
 
 # ---- Settings, and what may stand
 
+def outside(a):
+    """The first setting that is outside its limits, and these; None where there is none."""
+    def within(what, v, least, most):
+        if not least <= v <= most:
+            raise Outside('%s %d; %s' % (what, v, allowed(least, most)))
+
+    class Outside(Exception):
+        pass
+    try:
+        before = 200
+        for j in range(a.products):
+            within('{product %d}, target' % j, a.target[j], 1, min(200, before))
+            within('{product %d}, cap' % j, a.cap[j], 1, a.target[j])
+            within('{product %d}, starting price' % j, a.start[j], 1, 99999)
+            before = a.target[j]
+        within('statewide cap', a.statewide, 1, sum(a.target[:a.products]))
+        for i in range(a.bidders):
+            within('{bidder %d}, eligibility' % i, a.initial[i], 1, a.statewide)
+        for k in range(a.rows):
+            if k == 0:
+                within('row 0, percentage', a.percent[0], 0, 0)
+            else:
+                within('row %d, percentage' % k, a.percent[k], a.percent[k - 1] + 1, 60000)
+            within('row %d, decrement' % k, a.decrement[k], 50, 500)
+    except Outside as e:
+        return str(e)
+    return None
+
+
 def settings_fit(a):
     n, m, k = a.products, a.bidders, a.rows
     if not (1 <= n <= PRODUCTS and 1 <= m <= BIDDERS and 1 <= k <= ROWS and a.unit in UNIT):
         return False
-    for j in range(n):
-        if not (1 <= a.target[j] <= 200 and 1 <= a.cap[j] <= a.target[j] and 1 <= a.start[j] <= 99999):
-            return False
-        if j > 0 and a.target[j] > a.target[j - 1]:
-            return False
-    if not 1 <= a.statewide <= sum(a.target[:n]):
-        return False
-    if not all(1 <= e <= a.statewide for e in a.initial[:m]):
-        return False
-    for i in range(k):
-        if a.percent[i] > 60000 or not 50 <= a.decrement[i] <= 500:
-            return False
-        if a.percent[i] != 0 if i == 0 else a.percent[i] <= a.percent[i - 1]:
-            return False
     past = a.target[n:] + a.cap[n:] + a.start[n:] + a.initial[m:] + a.percent[k:] + a.decrement[k:]
-    return not any(past)
+    return outside(a) is None and not any(past)
 
 
 def spare_is_zero(a):
@@ -237,7 +300,7 @@ def stands(a):
             return False
         if a.round == 2 and any(a.kept(j) > 0 for j in range(a.products)):
             return False
-        return all(judged(a, i, a.slot[i]) == 0 for i in range(a.bidders) if a.has_filed(i))
+        return all(judged(a, i, a.slot[i]) is None for i in range(a.bidders) if a.has_filed(i))
     if a.filed != 0:
         return False
     if a.phase == CLOSED:
@@ -247,20 +310,26 @@ def stands(a):
 
 def looked_at(state):
     """The auction in the lent bytes, None where the box is issued; or 1 or 2."""
-    if len(state) != LENGTH:
-        raise Refused(1)
+    has_length(state)
     if not any(state):
         return None
     a = load(state)
     if not stands(a):
-        raise Refused(2)
+        raise Refused(2, 'only return can be done with it')
     return a
+
+
+def has_length(state):
+    if len(state) != LENGTH:
+        raise Refused(1, 'a box has %d bytes' % LENGTH)
 
 
 def with_bids_open(state):
     a = looked_at(state)
-    if a is None or a.phase != OPEN:
-        raise Refused(3)
+    if a is None:
+        raise Refused(3, 'the box is issued')
+    if a.phase != OPEN:
+        raise Refused(3, a.phase_in_words())
     return a
 
 
@@ -273,15 +342,22 @@ def card_length(n):
     return (17 + 36 * n + 7) // 8
 
 
-def write_card(n, bidder, round, lines):
+def has_products(n):
     if not 1 <= n <= PRODUCTS:
-        raise Refused(29)
-    fits = bidder < 1 << 5 and round < 1 << 12
+        raise Refused(29, '%d products' % n)
+
+
+def write_card(n, bidder, round, lines):
+    has_products(n)
+
+    def fits(what, v, bits):
+        if v >> bits:
+            raise Refused(30, '%s %d; %s' % (what, v, allowed(0, (1 << bits) - 1)))
+    fits('bidder', bidder, 5)
+    fits('round', round, 12)
     for j in range(PRODUCTS):
-        for v, bits in zip(lines[j].fields(), FIELDS):
-            fits = fits and (v < 1 << bits if j < n else v == 0)
-    if not fits:
-        raise Refused(30)
+        for what, v, bits in zip(('tranches', 'withdrawn', 'exit', 'priority'), lines[j].fields(), FIELDS):
+            fits('{product %d}, ' % j + what, v, bits if j < n else 0)
     value = bidder << 12 | round
     for j in range(n):
         for v, bits in zip(lines[j].fields(), FIELDS):
@@ -291,10 +367,9 @@ def write_card(n, bidder, round, lines):
 
 
 def read_card(n, card):
-    if not 1 <= n <= PRODUCTS:
-        raise Refused(29)
+    has_products(n)
     if len(card) != card_length(n):
-        raise Refused(4)
+        raise Refused(4, '%d bytes, and a card of %d products has %d' % (len(card), n, card_length(n)))
     bits = ''.join('{:08b}'.format(byte) for byte in card)
     at = 0
 
@@ -305,7 +380,7 @@ def read_card(n, card):
     bidder, round = take(5), take(12)
     lines = [Line(*(take(k) for k in FIELDS)) if j < n else Line() for j in range(PRODUCTS)]
     if '1' in bits[at:]:
-        raise Refused(5)
+        raise Refused(5, 'the last byte is %02x, and its last %d bits have to be 0' % (card[-1], len(bits) - at))
     return bidder, round, lines
 
 
@@ -320,7 +395,7 @@ def increase(c, l):
 
 
 def judged(a, i, lines):
-    """8 to 13 of bidder i's bid, each over all products before the next; 0 where it is valid."""
+    """8 to 13 of bidder i's bid, each over all products before the next: the number and what is wrong; None where it is valid."""
     n = a.products
     own, bid = a.record[i][:n], lines[:n]
     p, q, f = a.p, a.q, a.free[i]
@@ -328,22 +403,37 @@ def judged(a, i, lines):
     I = [increase(c, l) for c, l in zip(own, bid)]
     s = max(0, sum(I) - f)
     w = sum(R) - s
-    if any(l.b + c.d + c.r > a.cap[j] for j, (c, l) in enumerate(zip(own, bid))):
-        return 8
-    if any(R[j] > 0 and not a.ticked(j) for j in range(n)):
-        return 9
-    if sum(l.b for l in bid) > sum(c.g for c in own) + f:
-        return 10
-    if any(l.withdrawn > R[j] for j, l in enumerate(bid)) or sum(l.withdrawn for l in bid) != w:
-        return 11
-    if not all(p[j] < l.exit <= q[j] if l.withdrawn > 0 else l.exit == 0 for j, l in enumerate(bid)):
-        return 12
-    increased = sorted(l.priority for j, l in enumerate(bid) if I[j] > 0)
-    others = [l.priority for j, l in enumerate(bid) if I[j] == 0]
-    numbered = increased == list(range(1, len(increased) + 1)) and not any(others)
-    if not (numbered if s > 0 else not any(l.priority for l in bid)):
-        return 13
-    return 0
+    for j, (c, l) in enumerate(zip(own, bid)):
+        if l.b + c.d + c.r > a.cap[j]:
+            return 8, '{product %d}, %d + %d + %d against %d' % (j, l.b, c.d, c.r, a.cap[j])
+    for j, (c, l) in enumerate(zip(own, bid)):
+        if R[j] > 0 and not a.ticked(j):
+            return 9, '{product %d}, %d bid where %d are going; %d or more are allowed' % (j, l.b, c.g, c.g)
+    b, g = sum(l.b for l in bid), sum(c.g for c in own)
+    if b > g + f:
+        return 10, '%d bid in all where %d are going and %d is free; at most %d are allowed' % (b, g, f, g + f)
+    for j, l in enumerate(bid):
+        if l.withdrawn > R[j]:
+            return 11, '{product %d}, %d withdrawn where the reduction is %d; at most %d are allowed' % (j, l.withdrawn, R[j], R[j])
+    withdrawn = sum(l.withdrawn for l in bid)
+    if withdrawn != w:
+        return 11, '%d withdrawn in all where %d are reduced and %d is switched; exactly %d are allowed' % (withdrawn, sum(R), s, w)
+    for j, l in enumerate(bid):
+        if l.withdrawn > 0 and not p[j] < l.exit <= q[j]:
+            return 12, '{product %d}, exit %d where %d is the price and %d the price before; %s' % (
+                j, l.exit, p[j], q[j], allowed(p[j] + 1, q[j]))
+        if l.withdrawn == 0 and l.exit != 0:
+            return 12, '{product %d}, exit %d where nothing is withdrawn; 0 is allowed' % (j, l.exit)
+    for j, l in enumerate(bid):
+        if l.priority > 0 and (s == 0 or I[j] == 0):
+            return 13, '{product %d}, priority %d where nothing is %s; 0 is allowed' % (j, l.priority, 'increased' if s > 0 else 'switched')
+    if s > 0:
+        given = [l.priority for j, l in enumerate(bid) if I[j] > 0]
+        for k in range(1, len(given) + 1):
+            if given.count(k) != 1:
+                return 13, '%d products are increased, to be numbered 1 to %d once each; %d is given %d times' % (
+                    len(given), len(given), k, given.count(k))
+    return None
 
 
 def default_bid(a, i):
@@ -359,10 +449,31 @@ def default_bid(a, i):
 
 # ---- Calculating
 
+class Steps:
+    """What the steps of a calculation did, each counted as it was done, by bidder and product."""
+    KINDS = ('retained', 'denied', 'cancelled', 'deemed', 'denied outbid', 'retained outbid')
+
+    def __init__(self):
+        self.done = {}
+
+    def did(self, kind, i, j, many=1):
+        self.done[i, j, kind] = self.done.get((i, j, kind), 0) + many
+
+    def count(self, *kinds):
+        return sum(many for (_, _, kind), many in self.done.items() if kind in kinds)
+
+    def in_order(self):
+        """By bidder, then product, then as the kinds stand above."""
+        for (i, j, kind), many in sorted(self.done.items(), key=lambda e: (e[0][0], e[0][1], self.KINDS.index(e[0][2]))):
+            if many > 0:
+                yield i, j, kind, many
+
+
 def calculate(a, draw):
-    """Changes the auction; answers the tranches kept in step 2 and outbid in step 4."""
+    """Changes the auction; answers what its steps did."""
     n, m = a.products, a.bidders
     products = range(n)
+    steps = Steps()
     ticked = [a.ticked(j) for j in products]
     bids = [a.slot[i] if a.has_filed(i) else default_bid(a, i) for i in range(m)]
 
@@ -376,7 +487,6 @@ def calculate(a, draw):
 
     # 2. While some ticked product is below target, the first in rank keeps one tranche.
     held = [a.held(j) for j in products]
-    kept = 0
     while True:
         short = [j for j in products if ticked[j] and held[j] < a.target[j]]
         if not short:
@@ -388,6 +498,7 @@ def calculate(a, draw):
             withdrawn[i][j] -= 1
             a.record[i][j].r += 1
             a.record[i][j].x = bids[i][j].exit
+            steps.did('retained', i, j)
         else:
             i = [i for i in draw if left[i][j] > 0][0]
             left[i][j] -= 1
@@ -396,31 +507,34 @@ def calculate(a, draw):
             more[i][into] -= 1
             a.record[i][into].g -= 1
             held[into] -= 1
+            steps.did('denied', i, j)
+            steps.did('cancelled', i, into)
         held[j] += 1
-        kept += 1
 
     # 3. On a product that didn't tick, denied switches of a bidder with an increase left are deemed bid.
     for j in products:
         for i in range(m):
             c = a.record[i][j]
             if not ticked[j] and more[i][j] > 0:
+                steps.did('deemed', i, j, c.d)
                 c.g, c.d = c.g + c.d, 0
 
     # 4. On a product that didn't tick, while held exceeds target and a kept tranche remains, one is outbid.
     a.free = [0] * BIDDERS
-    outbid = 0
     for j in products:
         while not ticked[j] and a.standing(j) > 0 and a.kept(j) > 0:
             denied = [i for i in draw if a.record[i][j].d > 0]
             if denied:
                 a.record[denied[0]][j].d -= 1
                 a.free[denied[0]] += 1
+                steps.did('denied outbid', denied[0], j)
             else:
-                c = max((a.record[i][j] for i in draw if a.record[i][j].r > 0), key=lambda c: c.x)
+                i = max((i for i in draw if a.record[i][j].r > 0), key=lambda i: a.record[i][j].x)
+                c = a.record[i][j]
                 c.r -= 1
                 if c.r == 0:
                     c.x = 0
-            outbid += 1
+                steps.did('retained outbid', i, j)
 
     # 5. Closed, stopped, or the next round.
     if a.excess() == 0:
@@ -434,7 +548,7 @@ def calculate(a, draw):
         a.round += 1
     a.filed = 0
     a.slot = [[Line() for _ in range(PRODUCTS)] for _ in range(BIDDERS)]
-    return kept, outbid
+    return steps
 
 
 def next_price(a, j):
@@ -446,22 +560,30 @@ def next_price(a, j):
 
 # ---- Volume cutback after round 1
 
-def may_cut(a, target, cap):
-    """Whether these revised targets and caps, one of each a product, may be given now."""
-    if a.round != 2 or a.filed != 0:
-        return False
+def uncut(a, target, cap):
+    """Why these revised targets and caps, one of each a product, may not be given now; None where they may."""
+    if a.round != 2:
+        return 'this is round %d, and a cutback belongs to round 2' % a.round
+    for i in range(a.bidders):
+        if a.has_filed(i):
+            return '{bidder %d} has filed' % i
     for j in range(a.products):
         # "none larger than before and none 0, targets still ranked, caps at most targets"
-        if not (1 <= target[j] <= a.target[j] and 1 <= cap[j] <= a.cap[j] and cap[j] <= target[j]):
-            return False
-        if j > 0 and target[j] > target[j - 1]:
-            return False
+        most = min([a.target[j]] + target[j - 1:j])
+        if not 1 <= target[j] <= most:
+            return '{product %d}, target %d; %s' % (j, target[j], allowed(1, most))
+        most = min(a.cap[j], target[j])
+        if not 1 <= cap[j] <= most:
+            return '{product %d}, cap %d; %s' % (j, cap[j], allowed(1, most))
     # "The statewide cap stays, so a new volume below it is refused."
-    return sum(target) >= a.statewide
+    if sum(target) < a.statewide:
+        return '%d tranches in all, and the statewide cap is %d' % (sum(target), a.statewide)
+    return None
 
 
 def cut_back(a, target, cap):
-    """Changes the auction."""
+    """Changes the auction; answers who was above a cap: bidder, product and tranches."""
+    freed = []
     for j in range(a.products):
         a.target[j], a.cap[j] = target[j], cap[j]
     # "A bidder above a reduced cap is set to the cap, and the difference becomes its free eligibility."
@@ -470,6 +592,8 @@ def cut_back(a, target, cap):
             over = max(0, a.record[i][j].g - a.cap[j])
             a.record[i][j].g -= over
             a.free[i] += over
+            if over > 0:
+                freed.append((i, j, over))
     # "Round 2 prices are worked out afresh from the starting prices and the reduced book"; "Step 5's stop applies again."
     a.p, a.q = list(a.start), list(a.start)
     if a.must_stop():
@@ -478,11 +602,14 @@ def cut_back(a, target, cap):
         for j in range(a.products):
             if a.standing(j) > 0:
                 a.p[j] = next_price(a, j)
+    return freed
 
 
 def suggested_volume(bid, ratio):
-    if ratio == 0 or bid > 51200:
-        raise Refused(31)
+    if ratio == 0:
+        raise Refused(31, 'the ratio is 0')
+    if bid > 51200:
+        raise Refused(31, '%d bid; %s' % (bid, allowed(0, 51200)))
     return bid * 100 // ratio
 
 
@@ -533,6 +660,7 @@ def lines_of(text):
 
 class Reader:
     def __init__(self, line):
+        self.line = line
         self.words = [(m.start(), m.group()) for m in re.finditer(rb'[^\x00-\x20]+', line)]
         self.next = 0
         self.length = len(line)
@@ -618,14 +746,148 @@ class Reader:
         self.next += 1
         return bytes.fromhex(word.decode())
 
+    def is_word(self, word):
+        return not self.at_end() and self.words[self.next][1] == word
+
+    def rest(self):
+        """What is left of the line, without the spaces around it."""
+        at, last = self.words[-1]
+        rest = self.line[self.at():at + len(last)]
+        self.next = len(self.words)
+        return rest
+
     def done(self):
         if not self.at_end():
             raise Wrong('nothing more belongs here', self.at())
 
 
 def groups(numbers):
-    lines = [Line(*numbers[k:k + 4]) for k in range(0, len(numbers), 4)]
+    lines = [Line(pair(b), pair(w), x, byte(k)) for b, w, x, k in zip(*(numbers[k::4] for k in range(4)))]
     return lines + [Line()] * (PRODUCTS - len(lines))
+
+
+# ---- Names
+
+NAME = 24
+
+
+def is_name(name):
+    return 0 < len(name) <= NAME and not re.search(rb'[()\x00-\x08\x0a-\x1f\x7f]', name)
+
+
+class Names:
+    """Of bidders and products: by number, as they were given."""
+    def __init__(self):
+        self.of = {'bidder': {}, 'product': {}}
+
+    def lines(self):
+        return [b'%s %d %s' % (kind.encode(), n, name) for kind in ('bidder', 'product') for n, name in sorted(self.of[kind].items())]
+
+    def read(self, text, a):
+        """The names of a file, as far as its lines are names of this auction."""
+        for line in text.split(b'\n'):
+            found = re.fullmatch(rb'(bidder|product) ([0-9]+) (.+)', line)
+            if found:
+                kind, n, name = found.group(1).decode(), int(found.group(2)), found.group(3)
+                if n < in_use(a, kind) and is_name(name) and name.strip() == name and name not in self.of[kind].values():
+                    self.of[kind][n] = name
+
+    def put(self, line):
+        """A line of an answer, with the names in it."""
+        def named(found):
+            kind, n = found.group(1), int(found.group(2))
+            name = self.of[(kind or 'bidder ').strip()].get(n)
+            said = '%s%d' % (kind or '', n)
+            return said if name is None else '%s (%s)' % (said, name.decode(errors='surrogateescape'))
+        return re.sub(r'\{(bidder |product )?([0-9]+)\}', named, line)
+
+
+def in_use(a, kind):
+    return a.bidders if kind == 'bidder' else a.products
+
+
+# ---- What is said of a bid, a product and a report
+
+def card_fields(lines):
+    return ''.join(' %d %d %d %d' % l.fields() for l in lines)
+
+
+def bid_in_words(a, i, lines):
+    """A valid bid of bidder i against its records as they stand."""
+    out = ['  {bidder %d}, round %d' % (i, a.round)]
+    more = 0
+    for j in range(a.products):
+        l, g = lines[j], a.record[i][j].g
+        said = '  {product %d}: %d bid' % (j, l.b)
+        if l.b > g:
+            said += ', up from %d' % g
+            more += l.b - g
+            if l.priority > 0:
+                said += ', priority %d' % l.priority
+        elif l.b < g:
+            said += ', down from %d' % g
+            if l.withdrawn > 0:
+                said += ', %d withdrawn at %s' % (l.withdrawn, a.price(l.exit))
+            if g - l.b > l.withdrawn:
+                said += ', %d switched' % (g - l.b - l.withdrawn)
+        elif g > 0:
+            said += ', as before'
+        out.append(said)
+    said = '  in all %d bid' % sum(l.b for l in lines[:a.products])
+    # "Free eligibility not used lapses."
+    if a.free[i] > more:
+        said += '; %d of the free eligibility lapses' % (a.free[i] - more)
+    return out + [said]
+
+
+def products_in_words(a, then):
+    """Each product after a calculation or a cutback: `then` are the prices before."""
+    out = []
+    for j in range(a.products):
+        held, target = a.held(j), a.target[j]
+        over = 'excess %d' % (held - target) if held >= target else 'short %d' % (target - held)
+        price = 'price %d, next %s' % (then[j], a.price(a.p[j])) if a.phase == OPEN else 'price ' + a.price(then[j])
+        out.append('  {product %d}: held %d, target %d, %s, %s' % (j, held, target, over, price))
+    return out
+
+
+def end_in_words(a):
+    return ['  total excess supply %d' % a.excess(), '  ' + a.phase_in_words()]
+
+
+def state_in_words(a):
+    """After an undo."""
+    if a is None:
+        return '  the box is issued: every byte is zero'
+    return '  ' + a.phase_in_words() + (', ' + a.who_is_missing() if a.phase == OPEN else '')
+
+
+def report_in_words(a, i):
+    after = a.round - 1 if a.phase == OPEN else a.round
+    out = ['  to {bidder %d} after round %d: %s; total excess supply %d-%d; free eligibility %d'
+           % ((i, after, a.phase_in_words()) + range_of(a.excess()) + (a.free[i],)),
+           '  prices in ' + a.units()]
+    own = a.record[i][:a.products]
+    for j, c in enumerate(own):
+        out.append('  {product %d} price %d going %d denied %d retained %d exit %d' % ((j, a.p[j]) + c.fields()))
+        out.append('    ' + a.people(a.p[j]) + ('; retained at ' + a.people(c.x) if c.r > 0 else ''))
+    g, d, r = sum(c.g for c in own), sum(c.d for c in own), sum(c.r for c in own)
+    return out + ['  in all going %d denied %d retained %d, held %d' % (g, d, r, g + d + r)]
+
+
+def draw_fault(a, draw):
+    """What is wrong with a draw order; None where nothing is."""
+    wrong = []
+    unknown = [i for i in draw if i >= a.bidders]
+    often = [i for i in range(a.bidders) if draw.count(i) > 1]
+    missing = [i for i in range(a.bidders) if i not in draw]
+    if unknown:
+        wrong.append('{bidder %d} is unknown' % unknown[0])
+    if often:
+        wrong.append('{bidder %d} stands %d times' % (often[0], draw.count(often[0])))
+    if missing:
+        wrong.append('{bidder %d} is missing' % missing[0])
+    return '%s; %s' % (', '.join(wrong), a.the_bidders()) if wrong else None
 
 
 # ---- The desk
@@ -635,8 +897,31 @@ class Desk:
         self.path = path
         self.state = self.in_file()
         self.before = None  # the state before the last calculation or return, where there is a file
+        self.names = Names()
+        if path is not None and os.path.isfile(path + '.names') and self.stands():
+            with open(path + '.names', 'rb') as file:
+                self.names.read(file.read(), load(self.state))
         self.bails = self.ended = False
         self.status = 0
+
+    def stands(self):
+        return len(self.state) == LENGTH and any(self.state) and stands(load(self.state))
+
+    def at_start(self):
+        """What is said to standard error before the first line, of a box file."""
+        said = 'desk: %s: ' % self.path
+        if not os.path.lexists(self.path):
+            return said + 'no such file: a new box'
+        if len(self.state) != LENGTH:
+            return said + 'of another length: no call will do; a box has %d bytes' % LENGTH
+        if not any(self.state):
+            return said + 'issued'
+        if not self.stands():
+            return said + 'neither issued nor standing: no call but return will do; desk --check BOX says more'
+        a = load(self.state)
+        if a.phase == OPEN:
+            return said + self.names.put('open, round %d, %s' % (a.round, a.who_is_missing()))
+        return said + '%s in round %d' % (PHASE[a.phase], a.round)
 
     def in_file(self):
         if self.path is None or not os.path.lexists(self.path):
@@ -664,6 +949,15 @@ class Desk:
             if os.path.isfile(new):
                 os.unlink(new)
             raise Wrong('the box was not written: %s; nothing is changed' % e.strerror)
+
+    def keep_names(self):
+        if self.path is None:
+            return
+        if self.names.lines():
+            with open(self.path + '.names', 'wb') as file:
+                file.write(b''.join(line + b'\n' for line in self.names.lines()))
+        elif os.path.exists(self.path + '.names'):
+            os.unlink(self.path + '.names')
 
     def answers(self, text):
         """The lines of the answers to all lines of a text."""
@@ -693,9 +987,9 @@ class Desk:
             command = COMMANDS.get(word)
             if command is None:
                 raise Wrong('no such command; help lists them', at)
-            return command(self, r)
+            return [self.names.put(said) for said in command(self, r)]
         except (Refused, Wrong) as e:
-            return [e.text]
+            return [self.names.put(e.text)]
 
     def open(self, r):
         a = Auction()
@@ -704,82 +998,139 @@ class Desk:
         if r.at_end() or (word := r.word()) not in (b'kwh', b'mwday'):
             raise Wrong('the unit is kwh or mwday', unit)
         a.unit = (b'kwh', b'mwday').index(word)
-        a.statewide = r.number()
+        a.statewide = pair(r.number())
         products = r.group('product', PRODUCTS, 3, 'a product has a target, a cap and a starting price')
         bidders = r.group('bidder', BIDDERS, 1, 'a bidder has an initial eligibility', ', after 1 to 8 products')
         rows = r.group('row', ROWS, 2, 'a row has a percentage and a decrement', ', after 1 to 32 bidders')
         r.done()
-        if len(self.state) != LENGTH:
-            raise Refused(1)
+        has_length(self.state)
         if any(self.state):
-            raise Refused(17)
+            raise Refused(17, self.not_zero())
         a.products, a.bidders, a.rows = len(products), len(bidders), len(rows)
-        for j, (a.target[j], a.cap[j], a.start[j]) in enumerate(products):
-            a.p[j] = a.q[j] = a.start[j]
-        for i, (a.initial[i],) in enumerate(bidders):
-            a.free[i] = a.initial[i]
-        for k, (a.percent[k], a.decrement[k]) in enumerate(rows):
-            pass
-        if not settings_fit(a):
-            raise Refused(15)
+        for j, (target, cap, start) in enumerate(products):
+            a.target[j], a.cap[j] = pair(target), pair(cap)
+            a.start[j] = a.p[j] = a.q[j] = start
+        for i, (initial,) in enumerate(bidders):
+            a.initial[i] = a.free[i] = pair(initial)
+        for k, (percent, decrement) in enumerate(rows):
+            a.percent[k], a.decrement[k] = pair(percent), pair(decrement)
+        remark = outside(a)
+        if remark:
+            raise Refused(15, remark)
         self.keep(store(a), None)
-        return ['ok']
+        self.names = Names()
+        self.keep_names()
+        out = ['ok', '  round 1 is open; prices in %s; statewide cap %d' % (a.units(), a.statewide)]
+        for j in range(a.products):
+            out.append('  {product %d}: target %d, cap %d, starting price %s' % (j, a.target[j], a.cap[j], a.price(a.start[j])))
+        for i in range(a.bidders):
+            out.append('  {bidder %d}: eligibility %d' % (i, a.initial[i]))
+        for k in range(a.rows):
+            out.append('  row %d: from %d percent above target the price falls by %d.%02d percent'
+                       % ((k, a.percent[k]) + divmod(a.decrement[k], 100)))
+        return out
+
+    def not_zero(self):
+        """Of a state that is not issued."""
+        if not self.stands():
+            at = [k for k in range(LENGTH) if self.state[k]][0]
+            return 'byte %d is %d' % (at, self.state[at])
+        a = load(self.state)
+        return 'an auction is ' + ('open, in round %d' % a.round if a.phase == OPEN else PHASE[a.phase])
 
     def file_card(self, card):
+        """The lines that say it."""
         a = with_bids_open(self.state)
         bidder, round, lines = read_card(a.products, card)
         if bidder >= a.bidders:
-            raise Refused(6)
+            raise Refused(6, 'bidder %d, and %s' % (bidder, a.the_bidders()))
         if round != a.round:
-            raise Refused(7)
-        number = judged(a, bidder, lines)
-        if number:
-            raise Refused(number)
+            raise Refused(7, 'the card is of round %d, and this is round %d' % (round, a.round))
+        fault = judged(a, bidder, lines)
+        if fault:
+            raise Refused(*fault)
         a.slot[bidder] = lines
         a.filed |= 1 << bidder
         self.keep(store(a))
+        return bid_in_words(a, bidder, lines)
 
     def file(self, r):
         card = r.hex()
         r.done()
-        self.file_card(card)
-        return ['ok']
+        return ['ok'] + self.file_card(card)
 
     def bid(self, r):
-        bidder = r.number()
+        bidder = byte(r.number())
         first = r.next
         numbers = r.lines_to_end()
         a = with_bids_open(self.state)
         r.as_many(numbers, first, 4 * a.products, 'a bid in this auction has four numbers for each of %d products' % a.products)
         card = write_card(a.products, bidder, a.round, groups(numbers))
-        self.file_card(card)
-        return ['ok ' + card.hex()]
+        return ['ok ' + card.hex()] + self.file_card(card)
 
     def count(self, r):
         r.done()
         a = with_bids_open(self.state)
-        return ['ok %d' % (a.bidders - bin(a.filed).count('1'))]
+        return ['ok %d' % len(a.still_to_file())]
+
+    def missing(self, r):
+        r.done()
+        a = with_bids_open(self.state)
+        return ['ok %d' % len(a.still_to_file()), '  ' + a.who_is_missing()]
+
+    def show_filed(self, r):
+        if r.at_end():
+            a = with_bids_open(self.state)
+            filed = [i for i in range(a.bidders) if a.has_filed(i)]
+            return ['ok %d of %d' % (len(filed), a.bidders)] + [
+                '  {bidder %d}%s' % (i, card_fields(a.slot[i][:a.products])) for i in filed]
+        i = byte(r.number())
+        r.done()
+        a = with_bids_open(self.state)
+        if i >= a.bidders:
+            raise Refused(6, 'bidder %d, and %s' % (i, a.the_bidders()))
+        if not a.has_filed(i):
+            return ['ok not filed']
+        return ['ok %d %d%s' % (i, a.round, card_fields(a.slot[i][:a.products]))] + bid_in_words(a, i, a.slot[i])
 
     def calculate(self, r):
-        draw = r.numbers_to_end(40)
+        draw = [byte(i) for i in r.numbers_to_end(40)]
         a = with_bids_open(self.state)
-        if sorted(draw) != list(range(a.bidders)):
-            raise Refused(14)
-        counts = calculate(a, draw)
+        fault = draw_fault(a, draw)
+        if fault:
+            raise Refused(14, fault)
+        then, missing, round = list(a.p), a.still_to_file(), a.round
+        steps = calculate(a, draw)
         self.keep(store(a), self.state)
-        return ['ok kept %d outbid %d' % counts]
+        kept, outbid = steps.count('retained', 'denied'), steps.count('denied outbid', 'retained outbid')
+        out = ['ok kept %d outbid %d' % (kept, outbid), '  round %d calculated; default bids: %s' % (round, listed(missing) or 'none')]
+        out += products_in_words(a, then)
+        for i, j, kind, many in steps.in_order():
+            said = {
+                'retained': lambda: 'retained at ' + a.price(a.record[i][j].x),
+                # "d denied switches at the price q before its latest fall"
+                'denied': lambda: 'denied, held at ' + a.price(a.q[j]),
+                'cancelled': lambda: 'of the increase cancelled',
+                'deemed': lambda: 'deemed bid at ' + a.price(then[j]),
+                'denied outbid': lambda: 'denied outbid, free again',
+                'retained outbid': lambda: 'retained outbid, gone',
+            }[kind]()
+            out.append('  {bidder %d} on {product %d}: %d %s' % (i, j, many, said))
+        return out + end_in_words(a)
 
     def cutback(self, r):
         first = r.next
         numbers = r.groups_to_end(2, 'a revised target and a revised cap')
         a = with_bids_open(self.state)
         r.as_many(numbers, first, 2 * a.products, 'a cutback in this auction has two numbers for each of %d products' % a.products)
-        target, cap = numbers[0::2], numbers[1::2]
-        if not may_cut(a, target, cap):
-            raise Refused(20)
-        cut_back(a, target, cap)
+        target, cap = list(map(pair, numbers[0::2])), list(map(pair, numbers[1::2]))
+        remark = uncut(a, target, cap)
+        if remark:
+            raise Refused(20, remark)
+        freed = cut_back(a, target, cap)
         self.keep(store(a))
-        return ['ok']
+        out = ['  {bidder %d} on {product %d}: %d above the cap, free again' % each for each in freed]
+        return ['ok'] + out + products_in_words(a, a.start) + end_in_words(a)
 
     def suggest(self, r):
         bid, ratio = r.number(), r.number()
@@ -787,33 +1138,39 @@ class Desk:
         return ['ok %d' % suggested_volume(bid, ratio)]
 
     def report(self, r):
-        i = r.number()
+        every = r.is_word(b'all')
+        i = 0 if every else byte(r.number())
+        if every:
+            r.word()
         r.done()
         a = looked_at(self.state)
         if a is None:
-            raise Refused(3, 'issued')
+            raise Refused(3, 'no auction is open', 'issued')
         if i >= a.bidders:
-            raise Refused(6)
+            raise Refused(6, 'bidder %d, and %s' % (i, a.the_bidders()))
         if a.phase == OPEN and a.round == 1:
-            raise Refused(18)
-        out = ['ok %s excess %d-%d free %d' % ((PHASE[a.phase],) + range_of(a.excess()) + (a.free[i],))]
-        for j in range(a.products):
-            out.append('  product %d price %d going %d denied %d retained %d exit %d'
-                       % ((j, a.p[j]) + a.record[i][j].fields()))
-        return out
+            raise Refused(18, 'round 1 is not calculated yet')
+        if every:
+            return ['ok %d' % a.bidders] + [said for i in range(a.bidders) for said in report_in_words(a, i)]
+        return ['ok %s excess %d-%d free %d' % ((PHASE[a.phase],) + range_of(a.excess()) + (a.free[i],))] + report_in_words(a, i)
 
     def result(self, r):
         r.done()
         a = looked_at(self.state)
-        if a is None or a.phase != CLOSED:
-            raise Refused(16)
-        out = ['ok']
+        if a is None:
+            raise Refused(16, 'the box is issued')
+        if a.phase != CLOSED:
+            raise Refused(16, 'the auction is ' + PHASE[a.phase])
+        out = ['ok', '  closed in round %d; prices in %s; awards in tranches' % (a.round, a.units())]
         for j in range(a.products):
-            out.append('  product %d price %d' % (j, result_price(a, j)))
+            price = result_price(a, j)
+            out.append('  {product %d} price %d' % (j, price))
+            out.append('    %s; %d of %d awarded' % (a.people(price), a.held(j), a.target[j]))
         for i in range(a.bidders):
             awards = [c.g + c.d + c.r for c in a.record[i][:a.products]]
-            out.append('  bidder %d %s' % (i, ' '.join(map(str, awards))))
-        return out
+            out.append('  {bidder %d} %s' % (i, ' '.join(map(str, awards))))
+            out.append('    in all %d' % sum(awards))
+        return out + ['  in all %d of %d awarded' % (sum(map(a.held, range(a.products))), sum(a.target))]
 
     def show(self, r):
         r.done()
@@ -822,35 +1179,82 @@ class Desk:
             return ['ok issued']
         out = ['ok %s round %d unit %s statewide %d' % (PHASE[a.phase], a.round, UNIT[a.unit], a.statewide)]
         for j in range(a.products):
-            out.append('  product %d target %d cap %d start %d price %d before %d held %d'
+            out.append('  {product %d} target %d cap %d start %d price %d before %d held %d'
                        % (j, a.target[j], a.cap[j], a.start[j], a.p[j], a.q[j], a.held(j)))
+        for k in range(a.rows):
+            out.append('  row %d percent %d decrement %d' % (k, a.percent[k], a.decrement[k]))
+        out.append('  records G D R X: going, denied, retained at exit X; cards T W X P: tranches, withdrawn at exit X, priority')
         for i in range(a.bidders):
             own = ''.join(' %d %d %d %d' % c.fields() for c in a.record[i][:a.products])
-            out.append('  bidder %d eligibility %d free %d filed %d%s'
+            out.append('  {bidder %d} eligibility %d free %d filed %d%s'
                        % (i, a.initial[i], a.free[i], a.has_filed(i), own))
+            if a.has_filed(i):
+                out.append('    card' + card_fields(a.slot[i][:a.products]))
         return out
 
     def give_back(self, r):
         r.done()
-        if len(self.state) != LENGTH:
-            raise Refused(1)
+        has_length(self.state)
         self.keep(bytes(LENGTH), self.state)
-        return ['ok']
+        self.names = Names()
+        self.keep_names()
+        return ['ok', '  the box is issued: every byte is zero']
 
     def undo(self, r):
         r.done()
         if self.path is None:
             raise Wrong('nothing to undo: a copy is kept beside a box file only')
-        if len(self.state) != LENGTH:
-            raise Refused(1)
+        has_length(self.state)
         if self.before in (None, self.state):
             raise Wrong('nothing to undo: no calculation or return since the last undo or opening')
         try:
-            looked_at(self.before)
+            a = looked_at(self.before)
         except Refused:
             raise Wrong('nothing is undone: the copy beside the box is no state of a box')
         self.keep(self.before, None)
-        return ['ok']
+        return ['ok', state_in_words(a)]
+
+    # ---- Names
+
+    def named_auction(self):
+        a = looked_at(self.state)
+        if a is None:
+            raise Wrong('names belong to an auction; open one first')
+        return a
+
+    def name(self, r):
+        if not (r.is_word(b'bidder') or r.is_word(b'product')):
+            raise Wrong('name is for a bidder or a product', r.at())
+        kind = r.word().decode()
+        number_at = r.at()
+        n = r.number()
+        at = r.at()
+        if r.at_end():
+            raise Wrong('a name is missing', at)
+        name = r.rest()
+        if len(name) > NAME:
+            raise Wrong('a name has at most %d bytes' % NAME, at)
+        if not is_name(name):
+            raise Wrong('a name has no brackets', at)
+        a = self.named_auction()
+        if n >= in_use(a, kind):
+            raise Wrong('%ss are 0 to %d' % (kind, in_use(a, kind) - 1), number_at)
+        given = self.names.of[kind]
+        if name == b'-':
+            given.pop(n, None)
+        else:
+            for other in sorted(given):
+                if other != n and given[other] == name:
+                    raise Wrong('%s %d has this name' % (kind, other), at)
+            given[n] = name
+        self.keep_names()
+        return ['ok', '  {%s %d}' % (kind, n)]
+
+    def all_names(self, r):
+        r.done()
+        self.named_auction()
+        given = [(kind, n) for kind in ('bidder', 'product') for n in sorted(self.names.of[kind])]
+        return ['ok %d' % len(given)] + ['  {%s %d}' % each for each in given]
 
     def bail(self, r):
         at = r.at()
@@ -870,50 +1274,43 @@ class Desk:
         card = r.hex()
         r.done()
         bidder, round, lines = read_card(n, card)
-        return ['ok %d %d' % (bidder, round) + ''.join(' %d %d %d %d' % l.fields() for l in lines[:n])]
+        out = ['ok %d %d%s' % (bidder, round, card_fields(lines[:n])), '  bidder %d, round %d' % (bidder, round)]
+        for j, l in enumerate(lines[:n]):
+            withdrawn = ', %d withdrawn at %d' % (l.withdrawn, l.exit) if l.withdrawn > 0 else ''
+            priority = ', priority %d' % l.priority if l.priority > 0 else ''
+            out.append('  product %d: %d bid%s%s' % (j, l.b, withdrawn, priority))
+        return out
 
     def write(self, r):
-        n, bidder, round = r.number(), r.number(), r.number()
+        n, bidder, round = r.number(), byte(r.number()), pair(r.number())
         numbers = r.lines_to_end()
         return ['ok ' + write_card(n, bidder, round, groups(numbers)).hex()]
 
     def help(self, r):
-        r.done()
-        return HELP
+        """The first line only."""
+        if not r.at_end():
+            at, word = r.at(), r.word()
+            r.done()
+            if word not in COMMANDS and word not in TOPICS:
+                raise Wrong('no such command; help lists them', at)
+        return ['ok']
 
 
 COMMANDS = {
     b'open': Desk.open, b'file': Desk.file, b'bid': Desk.bid, b'count': Desk.count, b'calculate': Desk.calculate,
     b'suggest': Desk.suggest, b'cutback': Desk.cutback, b'report': Desk.report, b'result': Desk.result, b'show': Desk.show,
     b'return': Desk.give_back, b'undo': Desk.undo, b'read': Desk.read, b'write': Desk.write, b'bail': Desk.bail, b'quit': Desk.quit,
-    b'exit': Desk.quit, b'help': Desk.help,
+    b'exit': Desk.quit, b'help': Desk.help, b'?': Desk.help, b'missing': Desk.missing, b'filed': Desk.show_filed, b'name': Desk.name,
+    b'names': Desk.all_names,
 }
 
-HELP = [
-    'ok',
-    "  open UNIT STATEWIDE product T C P .. bidder E .. row PCT DEC ..   open an auction:",
-    "      UNIT is kwh or mwday; T C P are a product's target, cap and starting price;",
-    "      E is a bidder's initial eligibility; PCT DEC are a row's percentage and decrement",
-    '  file HEX   file a card',
-    "  bid B T W X P ..   write bidder B's card of the present round and file it:",
-    "      T W X P are a product's tranches, withdrawn, exit and priority",
-    '  count   how many bidders are still to file',
-    '  calculate D0 D1 ..   calculate the round; the bidders in draw order',
-    '  suggest BID RATIO   the suggested volume for BID tranches bid:',
-    '      RATIO is the target ratio in hundredths',
-    '  cutback T C ..   cut the volume after round 1, before a card of round 2 is filed:',
-    "      T C are a product's revised target and cap",
-    '  report B   the report to bidder B',
-    '  result   awards and prices of a closed auction',
-    '  show   the whole state',
-    '  return   return the box',
-    '  undo   put back the state before the last calculation or return, once',
-    '  read N HEX   read a card of N products',
-    "  write N B R T W X P ..   write bidder B's card of round R for N products",
-    '  bail on, bail off   end at the first line that is not answered ok, or go on',
-    '  quit   end; so does exit',
-    '  help   these lines',
-]
+# what there is help for beside the commands
+TOPICS = (b'round', b'example', b'units', b'letters', b'refusals')
+
+
+def encoded(said):
+    """A name may be of any bytes."""
+    return said.encode(errors='surrogateescape')
 
 
 def main():
@@ -923,7 +1320,7 @@ def main():
         print('error the box cannot be read: %s' % e.strerror)
         return 2
     for said in desk.answers(sys.stdin.buffer.read()):
-        print(said)
+        sys.stdout.buffer.write(encoded(said) + b'\n')
     return desk.status
 
 

@@ -62,15 +62,19 @@ fn copy_state(from: &[u8; STATE], to: &mut [u8; STATE]) {
     *to = *from;
 }
 
-// Whether the answer is the one that the journal has.
+// Whether the first line of the answer is the one that the journal has.
 fn is_said(answer: &[u8], n: usize, said: &[u8]) -> bool {
-    if answer.len() < n {
+    let k = said.len();
+    if answer.len() <= k {
         return false;
     }
-    if n == 0 {
+    if n <= k {
         return false;
     }
-    same(&answer[0..n - 1], said)
+    if answer[k] != b'\n' {
+        return false;
+    }
+    same(&answer[0..k], said)
 }
 
 fn is_kept_before(act: Act) -> bool {
@@ -178,15 +182,15 @@ fn play_line(
 // How far the journal was played.
 pub struct Played {
     // Whole lines, and the last of them after which the state was the box's.
-    lines: u64,
-    fitting: u64,
-    fault: Fault,
+    pub lines: u64,
+    pub fitting: u64,
+    pub fault: Fault,
     // The last sum, and whether bytes are left that are no whole line.
-    sum: [u8; SUM],
-    torn: bool,
+    pub sum: [u8; SUM],
+    pub torn: bool,
 }
 
-fn begun() -> Played {
+pub fn begun() -> Played {
     let sum = store::no_sum();
     Played {
         lines: 0,
@@ -212,10 +216,10 @@ fn line_length(bytes: &[u8]) -> usize
 }
 
 // What was read from the place of the next line on: it is played, and the place after it found.
-struct Turn {
-    played: Played,
-    ended: bool,
-    place: i64,
+pub struct Turn {
+    pub played: Played,
+    pub ended: bool,
+    pub place: i64,
 }
 
 fn after_line(
@@ -320,7 +324,7 @@ fn play_first(
     )
 }
 
-fn play_next(
+pub fn play_next(
     fd: i32,
     place: i64,
     played: Played,
@@ -375,7 +379,7 @@ fn play_all(
 
 // ---- What is said
 
-fn put_fault(told: &mut [u8; ANSWER], at: usize, fault: Fault, out: &[u8]) -> usize {
+pub fn put_fault(told: &mut [u8; ANSWER], at: usize, fault: Fault, out: &[u8]) -> usize {
     match fault {
         Fault::None => at,
         Fault::Unread => put(told, at, b"the journal cannot be read from here on\n"),
@@ -462,7 +466,7 @@ fn say_other(out: &mut [u8; ANSWER], played: Played) -> u8 {
     NOT_OK
 }
 
-fn is_issued(state: &[u8; STATE]) -> bool {
+pub fn is_issued(state: &[u8; STATE]) -> bool {
     let zeros = [0u8; STATE];
     same(state, &zeros)
 }

@@ -124,9 +124,16 @@ fn tell(path: &[u8], state: &[u8; STATE], out: &mut [u8; ANSWER]) -> u8 {
         b".before",
         b"its name with .before, the state before the last calculation or return\n",
     );
-    let n = put_beside(
+    let c = put_beside(
         out,
         b,
+        path,
+        b".names",
+        b"its name with .names, the names of an auction's bidders and products\n",
+    );
+    let n = put_beside(
+        out,
+        c,
         path,
         b".journal",
         b"its name with .journal, the calls of an auction\n",

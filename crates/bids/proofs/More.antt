@@ -5,7 +5,7 @@ use mathlib.Core.List.{List}
 use Prim.Native.Nat.{ℕ, _+_, _-_, _≤_, _<_}
 use native.Mathlib.Numerals.{add-one}
 use native.Mathlib.Omega.{arith}
-use borrow.Author.Tests.{eqb-true, eqb-false, leb-false, ne-eqb}
+use borrow.Author.Tests.{eqb-true, eqb-false, leb-true, leb-false, ne-eqb, le-ltb, lt-leb}
 use lib.ListN.{length, getD, set, replicate, length-set, getD-replicate}
 use lib.Seq.{getD-set-same, getD-set-other}
 use lib.Dec.{leb, ltb, eqb}
@@ -14,16 +14,26 @@ use Rattle.rules.specs.declared.Auction.{Auction}
 use Rattle.rules.specs.declared.Line.{Line}
 use Rattle.rules.specs.declared.Record.{Record}
 use Rattle.rules.specs.Count.{allUpTo}
-use Rattle.rules.specs.Settings.{setup, capOf}
+use Rattle.rules.specs.Settings.{between, setup, capOf}
 use Rattle.rules.specs.Held.{goingIn, deniedIn, retainedIn, ticked, freeOf}
 use Rattle.rules.specs.Bid.{bidIn, withdrawnIn, exitOn, oneIf, reduction, increase, recordOf, onProduct, priceAt, beforeAt, judged}
 use Rattle.rules.proofs.Lists.{all-ext}
 use Rattle.rules.proofs.Tests.{said, is-eqb}
 use Rattle.held.proofs.Found.{either, or-is}
 use Rattle.bids.specs.declared.line.Kept.{Kept}
-use Rattle.bids.specs.Lines.{isIncreased, keptWith, numberOf}
+use Rattle.bids.specs.Lines.{isIncreased, keptFirst, keptWith, numberOf}
 use Rattle.bids.specs.declared.Sums.{Sums}
 use Rattle.bids.specs.Tally.{summed, Small, Summed, KeptIn, Tallied, Numbers, onceEach}
+
+-- ---- exit prices
+
+-- no number is above the largest
+pub none-above : (p q x : ℕ) → p ≡ 4294967295 → x < 4294967296 → between 1 x 0 ≡ (ltb p x && leb x q)
+none-above p q x e h = rw (le-ltb p x (omega arith)) (by (leb 1 x) refl)
+  where
+    by : (t : Bool) → leb 1 x ≡ t → (t && leb x 0) ≡ false
+    by true f = lt-leb x 0 (omega (arith, leb-true 1 x f))
+    by false f = refl
 
 -- ---- the sums and the tests
 
@@ -36,6 +46,10 @@ small-8 s h = record {
   withdrawn = omega arith;
   rising = omega arith;
 }
+
+pub kept-none : {a : Auction} {r : ℕ → Record} {l : ℕ → Line} {t : Kept} → t ≡ keptFirst → KeptIn 0 a r l t
+unfolding allUpTo
+kept-none e = rw e (record { caps = refl; ticks = refl; leaves = refl; exits = refl; others = refl; plain = refl })
 
 module _ {m : ℕ} {r : ℕ → Record} {l : ℕ → Line} where
   pub sums-more : {t x : Sums} → Summed m r l t → x ≡ summed t (r m) (l m) → Summed (m + 1) r l x

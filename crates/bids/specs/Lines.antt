@@ -1,5 +1,5 @@
 -- The rules of a bid as tests of one product, with the record r and the line l of a bidder there. Assumes nothing.
-use mathlib.Core.Bool.{Bool, _&&_, _||_, not, cond}
+use mathlib.Core.Bool.{Bool, true, _&&_, _||_, not, cond}
 use Prim.Native.Nat.{ℕ, _+_}
 use lib.Dec.{leb, ltb, eqb}
 use Rattle.rules.specs.declared.Line.{Line}
@@ -10,6 +10,10 @@ use Rattle.bids.specs.declared.line.Kept.{Kept}
 
 abbrev pub isIncreased : Record → Line → Bool
 isIncreased r l = ltb 0 (increase r l)
+
+-- no product passed
+abbrev pub keptFirst : Kept
+keptFirst = record { caps = true; ticks = true; leaves = true; exits = true; others = true; plain = true }
 
 -- one product more, with its cap and the prices p and q, that ticked or not
 abbrev pub keptWith : Kept → Record → Line → ℕ → Bool → ℕ → ℕ → Kept

@@ -2,19 +2,20 @@
 // Every sum is of u16 fields, at most 8 of them, and is taken in a u32 whatever the state and the card hold.
 mod line;
 
+pub use line::Kept;
 pub use line::default_line;
+pub use line::exit_limits;
 pub use line::increase;
 pub use line::less;
 pub use line::reduction;
 ghost use mathlib.Core.Path.{_≡_};
 ghost use mathlib.Core.Bool.{_&&_, cond};
-ghost use Prim.Native.Nat.{ℕ, _+_, _<_};
+ghost use Prim.Native.Nat.{ℕ, _+_, _-_, _<_};
 ghost use lib.Dec.{ltb};
 ghost use Rattle.rules.specs.Bid.{recordOf, onProduct, judged};
 ghost use Rattle.rules.specs.Layout.{loaded};
 ghost use Rattle.book.specs.Lent.{Lent};
 ghost use Rattle.bids.specs.Tally.{Judging, Numbering, Small, Tallied, Numbers, onceEach, summed};
-use line::Kept;
 use rules::Line;
 use rules::Record;
 
@@ -46,6 +47,20 @@ impl Sums {
             rising: self.rising + (increase > 0) as u32,
         }
     }
+
+    // "Increases use free eligibility first; the others, s in all, are switches."
+    pub fn switches(self, f: u32) -> u32
+        ensures { λ r. ⌜ r ≡ self .increased - f ⌝ }
+    {
+        line::less(self.increased, f)
+    }
+
+    // "Withdrawals over all products total w = sum of R - s."
+    pub fn withdrawals(self, switches: u32) -> u32
+        ensures { λ r. ⌜ r ≡ self .reduced - switches ⌝ }
+    {
+        line::less(self.reduced, switches)
+    }
 }
 
 pub struct Tally {
@@ -53,7 +68,7 @@ pub struct Tally {
     pub kept: Kept,
 }
 
-fn tally_of(s: &[u8], ticks: &[u8; 8], b: usize, lines: [Line; 8]) -> Tally
+pub fn tally_of(s: &[u8], ticks: &[u8; 8], b: usize, lines: [Line; 8]) -> Tally
     requires { ⌜ Judging (now s) (now ticks) b ⌝ }
     ensures { λ x. ⌜ Tallied (loaded (now (s .entry)) .terms .products) (loaded (now (s .entry))) b lines (x .sums) (x .kept) ⌝ }
 {
@@ -66,14 +81,7 @@ fn tally_of(s: &[u8], ticks: &[u8; 8], b: usize, lines: [Line; 8]) -> Tally
         withdrawn: 0,
         rising: 0,
     };
-    let mut kept = Kept {
-        caps: true,
-        ticks: true,
-        leaves: true,
-        exits: true,
-        others: true,
-        plain: true,
-    };
+    let mut kept = Kept::at_first();
     let mut p: usize = 0;
     while p < m {
         let r = book::record(s, b * 8 + p);
@@ -95,7 +103,7 @@ fn tally_of(s: &[u8], ticks: &[u8; 8], b: usize, lines: [Line; 8]) -> Tally
 // ---- 13: "increased products .. numbered 1 to k once each"
 
 // How many increased products have each priority number, 1 to 8; at 0 stands what is not numbered so.
-fn numbers_of(s: &[u8], b: usize, lines: [Line; 8]) -> [u8; 9]
+pub fn numbers_of(s: &[u8], b: usize, lines: [Line; 8]) -> [u8; 9]
     requires { ⌜ Lent (now s) × (b < 32) ⌝ }
     ensures { λ x. ⌜ Numbers (loaded (now (s .entry)) .terms .products) (recordOf (loaded (now (s .entry))) b) (onProduct lines) x ⌝ }
 {
@@ -150,10 +158,8 @@ pub fn judge(s: &[u8], ticks: &[u8; 8], b: usize, lines: [Line; 8]) -> u8
     let x = t.sums;
     let y = t.kept;
     let f = book::free(s, b).0 as u32;
-    // "Increases use free eligibility first; the others, s in all, are switches."
-    let switches = line::less(x.increased, f);
-    // "Withdrawals over all products total w = sum of R - s."
-    let w = line::less(x.reduced, switches);
+    let switches = x.switches(f);
+    let w = x.withdrawals(switches);
     let fit = priorities_fit(s, b, lines, t, switches);
     let from13 = refuse(!fit, 13, 0);
     let from12 = refuse(!y.exits, 12, from13);

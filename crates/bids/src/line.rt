@@ -1,10 +1,14 @@
 // The rules of a bid on one product, of a bidder with the record r and the line l there. Document 01, "Rules of a bid" and
 // numbers 8, 9, 11, 12 and 13.
 ghost use mathlib.Core.Path.{_≡_};
-ghost use Prim.Native.Nat.{_-_, _≤_};
+ghost use mathlib.Core.Bool.{_&&_};
+ghost use Prim.Native.Nat.{ℕ, _-_, _≤_, _<_};
+ghost use lib.Dec.{leb, ltb};
+ghost use Rattle.rules.specs.Allowed.{allows};
 ghost use Rattle.rules.specs.Units.{amountOf};
 ghost use Rattle.rules.specs.Bid.{reduction, increase, defaultLine};
-ghost use Rattle.bids.specs.Lines.{keptWith, numberOf};
+ghost use Rattle.bids.specs.Lines.{keptFirst, keptWith, numberOf};
+use rules::Limits;
 use rules::Line;
 use rules::Lot;
 use rules::Price;
@@ -35,6 +39,21 @@ pub fn increase(r: Record, l: Line) -> u32
     less(l.tranches.0 as u32, r.going.0 as u32)
 }
 
+// 12: what an exit price may be, p < x <= q; nothing where no price is above p.
+pub fn exit_limits(p: Price, q: Price) -> Limits
+    ensures { λ r. ⌜ ((x : ℕ) → x < 4294967296 → allows r x ≡ (ltb (amountOf p) x && leb x (amountOf q))) ⌝ }
+{
+    let last = p.amount();
+    let most = q.amount();
+    if last == 4294967295 {
+        return Limits { least: 1, most: 0 };
+    }
+    Limits {
+        least: last + 1,
+        most,
+    }
+}
+
 // Which rules each product passed keeps.
 pub struct Kept {
     // 8: b + d + r is not above the product cap.
@@ -52,6 +71,20 @@ pub struct Kept {
 }
 
 impl Kept {
+    // No product is passed yet.
+    pub fn at_first() -> Kept
+        ensures { λ r. ⌜ r ≡ keptFirst ⌝ }
+    {
+        Kept {
+            caps: true,
+            ticks: true,
+            leaves: true,
+            exits: true,
+            others: true,
+            plain: true,
+        }
+    }
+
     // One product more, at the prices p and q.
     pub fn with(self, r: Record, l: Line, cap: Tranches, tick: bool, p: Price, q: Price) -> Kept
         ensures { λ x. ⌜ x ≡ keptWith self r l (cap .0) tick (amountOf p) (amountOf q) ⌝ }
@@ -60,7 +93,7 @@ impl Kept {
         let rises = increase(r, l) > 0;
         let leaves = l.withdrawn.count.0 > 0;
         let exit = l.withdrawn.exit;
-        let within = (p.amount() < exit) & (exit <= q.amount());
+        let within = exit_limits(p, q).holds(exit);
         Kept {
             caps: self.caps
                 & (l.tranches.0 as u32 + r.denied.0 as u32 + r.retained.count.0 as u32

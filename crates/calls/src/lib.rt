@@ -3,6 +3,7 @@ ghost use Prim.Native.Nat.{_≤_};
 ghost use Rattle.calls.specs.Lines.{Made as Makes, openWord, fileWord, bidWord, calculateWord, cutbackWord, returnWord};
 use asked::Numbers;
 use asked::One;
+use asked::Revised;
 use asked::draw_of;
 use asked::ends;
 use asked::groups;
@@ -18,6 +19,7 @@ use layout::STATE;
 use rules::Answer;
 use rules::Calculation;
 use rules::Count;
+use rules::Line;
 use rules::Settings;
 use store::Act;
 use store::Kind;
@@ -28,7 +30,11 @@ use text::Cursor;
 use text::put;
 use text::put_hex;
 use text::put_named;
-use view::refused;
+use view::put_calculated;
+use view::put_cut;
+use view::put_filed;
+use view::put_opened;
+use view::put_refused;
 
 // What a line made of the copy: no call of this kind; a call that was refused, or none since the line is wrong; a call that is done.
 // Of the last two how long the answer is.
@@ -38,20 +44,41 @@ pub enum Made {
     Done(Act, usize),
 }
 
-// `ok` for a call that is done, its number for one that is refused.
-fn settled(answer: Answer, act: Act, out: &mut [u8; ANSWER]) -> Made {
-    match answer {
-        Answer::Done => Made::Done(act, put(out, 0, b"ok\n")),
-        Answer::Refused(n) => Made::Said(refused(out, n)),
-    }
+// The state before a call.
+fn copy_of(state: &[u8; STATE]) -> [u8; STATE] {
+    *state
+}
+
+// A refusal of any call on a state, with what the state is.
+pub fn refused(n: u8, state: &[u8; STATE], out: &mut [u8; ANSWER]) -> usize {
+    let a = put_refused(out, n);
+    let b = remark::of_phase(out, a, n, state);
+    put(out, b, b"\n")
 }
 
 // The length of the console's refusal of a box of another length; 0 for any other box.
 pub fn other_length(kind: Kind, state: &[u8; STATE], out: &mut [u8; ANSWER]) -> usize {
     if is_wrong(kind) {
-        return refused(out, number_on(kind, state));
+        return refused(number_on(kind, state), state, out);
     }
     0
+}
+
+// ---- Opening and return
+
+// What is said of an opening: the settings as they were taken, or which of them is outside its limits.
+fn opened(answer: Answer, settings: Settings, work: &[u8; STATE], out: &mut [u8; ANSWER]) -> Made {
+    match answer {
+        Answer::Done => {
+            let a = put(out, 0, b"ok\n");
+            Made::Done(Act::Opening, put_opened(out, a, work))
+        }
+        Answer::Refused(n) => {
+            let a = put_refused(out, n);
+            let b = remark::of_opening(out, a, n, work, settings);
+            Made::Said(put(out, b, b"\n"))
+        }
+    }
 }
 
 // Settings that are handed over are known to have their lengths.
@@ -73,7 +100,18 @@ fn open(line: &[u8], c: Cursor, kind: Kind, work: &mut [u8; STATE], out: &mut [u
         return Made::Said(wrong);
     }
     let settings = asked.settings;
-    settled(open_on(work, settings), Act::Opening, out)
+    let answer = open_on(work, settings);
+    opened(answer, settings, work, out)
+}
+
+fn returned(answer: Answer, work: &[u8; STATE], out: &mut [u8; ANSWER]) -> Made {
+    match answer {
+        Answer::Done => {
+            let a = put(out, 0, b"ok\n");
+            Made::Done(Act::Return, view::put_back(out, a, work))
+        }
+        Answer::Refused(n) => Made::Said(refused(n, work, out)),
+    }
 }
 
 fn return_box(
@@ -93,18 +131,32 @@ fn return_box(
     if wrong != 0 {
         return Made::Said(wrong);
     }
-    settled(console::return_box(work), Act::Return, out)
+    let answer = console::return_box(work);
+    returned(answer, work, out)
 }
 
-// `ok kept K outbid O`
-fn calculated(answer: Calculation, out: &mut [u8; ANSWER]) -> Made {
+// ---- A calculation
+
+// `ok kept K outbid O`, and what the round did; or what is wrong with the draw.
+fn calculated(
+    answer: Calculation,
+    draw: &[u8],
+    before: &[u8; STATE],
+    work: &[u8; STATE],
+    out: &mut [u8; ANSWER],
+) -> Made {
     match answer {
         Calculation::Done { kept, outbid } => {
             let a = put_named(out, 0, b"ok kept ", kept as u64);
             let b = put_named(out, a, b" outbid ", outbid as u64);
-            Made::Done(Act::Calculation, put(out, b, b"\n"))
+            let c = put(out, b, b"\n");
+            Made::Done(Act::Calculation, put_calculated(out, c, before, work))
         }
-        Calculation::Refused(n) => Made::Said(refused(out, n)),
+        Calculation::Refused(n) => {
+            let a = put_refused(out, n);
+            let b = remark::of_draw(out, a, n, work, draw);
+            Made::Said(put(out, b, b"\n"))
+        }
     }
 }
 
@@ -129,7 +181,9 @@ fn calculate(
             if 40 < k {
                 return Made::Other;
             }
-            calculated(console::calculate(work, &draw[0..k]), out)
+            let before = copy_of(work);
+            let answer = console::calculate(work, &draw[0..k]);
+            calculated(answer, &draw[0..k], &before, work, out)
         }
         Numbers::Said(n) => Made::Said(n),
     }
@@ -148,7 +202,30 @@ fn open_products(kind: Kind, state: &[u8; STATE], out: &mut [u8; ANSWER]) -> Pro
     }
     match console::count(state) {
         Count::ToFile(_) => Products::Open(book::products(state)),
-        Count::Refused(n) => Products::Said(refused(out, n)),
+        Count::Refused(n) => Products::Said(refused(n, state, out)),
+    }
+}
+
+// `ok`, and what the cutback left; or which condition is not met.
+fn cut(
+    answer: Answer,
+    revised: Revised,
+    before: &[u8; STATE],
+    work: &[u8; STATE],
+    out: &mut [u8; ANSWER],
+) -> Made {
+    match answer {
+        Answer::Done => {
+            let a = put(out, 0, b"ok\n");
+            Made::Done(Act::Plain, put_cut(out, a, before, work))
+        }
+        Answer::Refused(n) => {
+            let a = put_refused(out, n);
+            let targets = revised.targets;
+            let caps = revised.caps;
+            let b = remark::of_cutback(out, a, n, work, targets, caps);
+            Made::Said(put(out, b, b"\n"))
+        }
     }
 }
 
@@ -172,12 +249,46 @@ fn cutback(
                 let revised = revised_of(numbers);
                 let targets = revised.targets;
                 let caps = revised.caps;
-                settled(console::cutback(work, targets, caps), Act::Plain, out)
+                let before = copy_of(work);
+                let answer = console::cutback(work, targets, caps);
+                cut(answer, revised, &before, work, out)
             }
             Products::Said(n) => Made::Said(n),
         },
         Numbers::Said(n) => Made::Said(n),
     }
+}
+
+// ---- A card
+
+// What is said of a card that is filed, after the first line; or where it breaks a rule.
+fn filed(
+    answer: Answer,
+    first: usize,
+    card: &[u8],
+    work: &[u8; STATE],
+    out: &mut [u8; ANSWER],
+) -> Made {
+    match answer {
+        Answer::Done => Made::Done(Act::Plain, put_filed(out, first, work, bidder_of(card))),
+        Answer::Refused(n) => {
+            let a = put_refused(out, n);
+            let b = remark::of_card(out, a, n, work, card);
+            Made::Said(put(out, b, b"\n"))
+        }
+    }
+}
+
+fn first_of(card: &[u8]) -> u8 {
+    if card.len() == 0 {
+        return 0;
+    }
+    card[0]
+}
+
+// Whose card it is: its first five bits.
+fn bidder_of(card: &[u8]) -> usize {
+    first_of(card) as usize / 8
 }
 
 // `file HEX`
@@ -192,30 +303,38 @@ fn file(line: &[u8], c: Cursor, kind: Kind, work: &mut [u8; STATE], out: &mut [u
                 return Made::Said(wrong);
             }
             let bytes = bytes_of(card);
-            settled(file_part(work, &bytes, k), Act::Plain, out)
+            file_part(work, &bytes, k, out)
         }
         Numbers::Said(n) => Made::Said(n),
     }
 }
 
+fn file_bytes(work: &mut [u8; STATE], card: &[u8], out: &mut [u8; ANSWER]) -> Made
+    ensures { λ _. ⌜ Makes fileWord (now (work .entry)) (now (work .exit)) ⌝ }
+{
+    let answer = console::file(work, card);
+    let first = put(out, 0, b"ok\n");
+    filed(answer, first, card, work, out)
+}
+
 // The first k bytes are the card; a card that has more than all of them is none.
-fn file_part(work: &mut [u8; STATE], card: &[u8], k: usize) -> Answer
+fn file_part(work: &mut [u8; STATE], card: &[u8], k: usize, out: &mut [u8; ANSWER]) -> Made
     ensures { λ _. ⌜ Makes fileWord (now (work .entry)) (now (work .exit)) ⌝ }
 {
     if k <= card.len() {
-        return console::file(work, &card[0..k]);
+        return file_bytes(work, &card[0..k], out);
     }
-    console::file(work, card)
+    file_bytes(work, card, out)
 }
 
-// How many bytes a card has: bidder and round take 17 bits, a product 36. A count that has no card gets none.
+// How many bytes a card has. A count that has no card gets none.
 pub fn card_length(products: usize) -> usize
     ensures { λ r. ⌜ r ≤ 39 ⌝ }
 {
     if 8 < products {
         return 0;
     }
-    (17 + 36 * products + 7) / 8
+    card::length_for(products)
 }
 
 // The bytes of a card, lent before.
@@ -230,14 +349,27 @@ pub fn put_card(out: &mut [u8; ANSWER], card: &[u8]) -> usize {
     put(out, b, b"\n")
 }
 
+// Which field a card has no room for.
+pub fn not_written(
+    n: u8,
+    products: usize,
+    bidder: u8,
+    round: u16,
+    lines: [Line; 8],
+    out: &mut [u8; ANSWER],
+) -> usize {
+    let a = put_refused(out, n);
+    let b = remark::of_write(out, a, n, products, bidder, round, lines);
+    put(out, b, b"\n")
+}
+
 // A card that was written is filed.
 fn file_written(work: &mut [u8; STATE], card: &[u8], out: &mut [u8; ANSWER]) -> Made
     ensures { λ _. ⌜ Makes bidWord (now (work .entry)) (now (work .exit)) ⌝ }
 {
-    match console::file(work, card) {
-        Answer::Done => Made::Done(Act::Plain, put_card(out, card)),
-        Answer::Refused(n) => Made::Said(refused(out, n)),
-    }
+    let answer = console::file(work, card);
+    let first = put_card(out, card);
+    filed(answer, first, card, work, out)
 }
 
 // The bidder's card of the present round, written and filed.
@@ -251,20 +383,22 @@ fn bid_on(
     ensures { λ _. ⌜ Makes bidWord (now (work .entry)) (now (work .exit)) ⌝ }
 {
     let round = book::round(work);
+    let lines = lines_of(numbers);
     let k = card_length(products);
     let mut room = [0u8; 1024];
-    match console::write(
-        &mut room[0..k],
-        products,
-        one_byte(bidder),
-        round,
-        lines_of(numbers),
-    ) {
+    match console::write(&mut room[0..k], products, one_byte(bidder), round, lines) {
         Answer::Done => {
             let card = bytes_of(room);
             file_written(work, &card[0..k], out)
         }
-        Answer::Refused(n) => Made::Said(refused(out, n)),
+        Answer::Refused(n) => Made::Said(not_written(
+            n,
+            products,
+            one_byte(bidder),
+            round,
+            lines,
+            out,
+        )),
     }
 }
 

@@ -1,7 +1,7 @@
 -- The laws of a card's lines: put, read, and tested whether they fit. Assumes nothing.
-use mathlib.Core.Path.{_≡_, refl, ap, _∙_}
+use mathlib.Core.Path.{_≡_, refl, ap, ap₂, _∙_}
 use mathlib.Core.Logic.{inl}
-use mathlib.Core.Bool.{Bool, true, false, _&&_, false≢true, and-eq-true-iff}
+use mathlib.Core.Bool.{Bool, true, false, _&&_, cond, false≢true, and-eq-true-iff}
 use mathlib.Core.List.{List}
 use Prim.Native.Nat.{ℕ, zero, suc, _+_, _*_, _≤_, _<_}
 use native.Mathlib.Decide.{decLt}
@@ -14,8 +14,25 @@ use Rattle.rules.specs.declared.Line.{Line}
 use Rattle.rules.specs.Bits.{bitAt, fieldAt}
 use Rattle.rules.specs.Count.{allUpTo}
 use Rattle.rules.specs.Card.{line, noLine, lineBit, lineAt, readLines, putLine, putLines, lineFits, lineZero}
+use Rattle.rules.specs.Settings.{between}
+use Rattle.rules.proofs.Allowed.{from-zero, only-zero}
 use Rattle.card.specs.Parts.{lineWritable}
 use Rattle.bits.proofs.BitLaws.{field-small, Agree, field-agree, agree-field, agree-join, length-put, Outside, outside-part, put-out, field-before, field-put, Bytes, bytes-put}
+
+-- ---- a line tested
+
+-- in use, or past the count
+pub fields-are : (t : Bool) (l : Line)
+    → (between 0 (l .tranches .0) (cond t 255 0)
+    && (between 0 (l .withdrawn .count .0) (cond t 255 0)
+    && (between 0 (l .withdrawn .exit) (cond t 131071 0) && between 0 (l .priority) (cond t 7 0))))
+    ≡ cond t (lineFits l) (lineZero l)
+fields-are true l =
+    ap₂ _&&_ (from-zero (l .tranches .0) 255)
+    (ap₂ _&&_ (from-zero (l .withdrawn .count .0) 255) (ap₂ _&&_ (from-zero (l .withdrawn .exit) 131071) (from-zero (l .priority) 7)))
+fields-are false l =
+    ap₂ _&&_ (only-zero (l .tranches .0))
+    (ap₂ _&&_ (only-zero (l .withdrawn .count .0)) (ap₂ _&&_ (only-zero (l .withdrawn .exit)) (only-zero (l .priority))))
 
 -- ---- a line read
 

@@ -1,16 +1,20 @@
 // The bid card: "Bits packed most significant first: bidder 5, round 12; then for each product in rank: tranches 8,
 // withdrawn 8, exit price 17, switching priority 3. Zero bits fill the last byte."
 ghost use mathlib.Core.Path.{_≡_};
-ghost use Prim.Native.Nat.{_+_, _*_, _≤_};
+ghost use mathlib.Core.Bool.{cond};
+ghost use Prim.Native.Nat.{_+_, _*_, _-_, _≤_, _<_};
 ghost use lib.ListN.{length};
+ghost use lib.Dec.{ltb};
 ghost use Rattle.rules.specs.Count.{allUpTo};
-ghost use Rattle.rules.specs.Card.{cardLength, lineAt, readLines, readRefused, readCard, putLine, putLines, writeCard};
+ghost use Rattle.rules.specs.Allowed.{limits};
+ghost use Rattle.rules.specs.Card.{lineBit, cardLength, lineFits, lineZero, lineAt, readLines, readRefused, readCard, putLine, putLines, writeCard};
 ghost use Rattle.card.specs.Parts.{lineWritable};
 use bits::put_field;
 use bits::value;
 use rules::Answer;
 use rules::Card;
 use rules::CardRead;
+use rules::Limits;
 use rules::Line;
 use rules::Lot;
 use rules::Tranches;
@@ -22,6 +26,22 @@ const LINES: usize = 17;
 
 // "tranches 8, withdrawn 8, exit price 17, switching priority 3"
 const LINE: usize = 36;
+
+// How many bytes a card has: "Zero bits fill the last byte."
+pub fn length_for(products: usize) -> usize
+    requires { ⌜ products ≤ 8 ⌝ }
+    ensures { λ r. ⌜ (r ≡ cardLength products) × (r ≤ 39) ⌝ }
+{
+    (LINES + LINE * products + 7) / 8
+}
+
+// And how many of its bits fill it.
+pub fn filling_for(products: usize) -> usize
+    requires { ⌜ products ≤ 8 ⌝ }
+    ensures { λ r. ⌜ (r ≡ 8 * cardLength products - lineBit products) × (r < 8) ⌝ }
+{
+    8 * length_for(products) - (LINES + LINE * products)
+}
 
 // ---- reading
 
@@ -79,13 +99,10 @@ pub fn read(card: &[u8], products: usize) -> CardRead
     if products > 8 {
         return refused(29);
     }
-    // "Zero bits fill the last byte."
-    let used = LINES + LINE * products;
-    let long = (used + 7) / 8;
-    if card.len() != long {
+    if card.len() != length_for(products) {
         return refused(4);
     }
-    let filling = value(card, used, 8 * long - used);
+    let filling = value(card, LINES + LINE * products, filling_for(products));
     if filling != 0 {
         return refused(5);
     }
@@ -122,6 +139,44 @@ fn put_lines(room: &mut [u8], lines: [Line; 8], products: usize)
     }
 }
 
+// What a field holds, of the bits that it has: "bidder 5, round 12"; "tranches 8, withdrawn 8, exit price 17, switching priority 3".
+pub const MOST_BIDDER: u32 = 31;
+
+pub const MOST_ROUND: u32 = 4095;
+
+pub const MOST_TRANCHES: u32 = 255;
+
+pub const MOST_EXIT: u32 = 131071;
+
+pub const MOST_PRIORITY: u32 = 7;
+
+pub fn up_to(most: u32) -> Limits
+    ensures { λ r. ⌜ r ≡ limits 0 most ⌝ }
+{
+    Limits { least: 0, most }
+}
+
+// What a field of product i may be; past the count 0.
+pub fn field_limits(products: usize, i: usize, most: u32) -> Limits
+    ensures { λ r. ⌜ r ≡ limits 0 (cond (ltb i products) most 0) ⌝ }
+{
+    if i < products {
+        return up_to(most);
+    }
+    up_to(0)
+}
+
+fn line_writable(products: usize, i: usize, line: Line) -> bool
+    ensures { λ r. ⌜ r ≡ cond (ltb i products) (lineFits line) (lineZero line) ⌝ }
+{
+    let of_tranches = field_limits(products, i, MOST_TRANCHES);
+    let of_exit = field_limits(products, i, MOST_EXIT);
+    let of_priority = field_limits(products, i, MOST_PRIORITY);
+    of_tranches.holds(line.tranches.0 as u32)
+        & (of_tranches.holds(line.withdrawn.count.0 as u32)
+            & (of_exit.holds(line.withdrawn.exit) & of_priority.holds(line.priority as u32)))
+}
+
 // A line fits its bits; past the count it is all zero.
 fn lines_writable(products: usize, lines: [Line; 8]) -> bool
     ensures { λ r. ⌜ r ≡ allUpTo (lineWritable products lines) 8 ⌝ }
@@ -129,12 +184,7 @@ fn lines_writable(products: usize, lines: [Line; 8]) -> bool
     let mut all = true;
     let mut i: usize = 0;
     while i < 8 {
-        let line = lines[i];
-        if i < products {
-            all = all & line.fits();
-        } else {
-            all = all & line.is_zero();
-        }
+        all = all & line_writable(products, i, lines[i]);
         i += 1;
     }
     all
@@ -151,11 +201,11 @@ pub fn write(room: &mut [u8], products: usize, bidder: u8, round: u16, lines: [L
     if products > 8 {
         return Answer::Refused(29);
     }
-    let used = LINES + LINE * products;
-    if room.len() != (used + 7) / 8 {
+    if room.len() != length_for(products) {
         return Answer::Refused(4);
     }
-    let fit = (bidder < 32) & ((round < 4096) & lines_writable(products, lines));
+    let fit = up_to(MOST_BIDDER).holds(bidder as u32)
+        & (up_to(MOST_ROUND).holds(round as u32) & lines_writable(products, lines));
     if !fit {
         return Answer::Refused(30);
     }

@@ -8,6 +8,8 @@ use calls::make;
 use check::same;
 use layout::STATE;
 use looks::look;
+use names::NAMES;
+use names::Naming;
 use rules::Count;
 use rules::Phase;
 use store::Act;
@@ -15,6 +17,9 @@ use store::Kind;
 use store::Undo;
 use store::copy_before;
 use store::keep;
+use store::number_on;
+use store::put_reason;
+use store::save_names;
 use text::ANSWER;
 use text::Cursor;
 use text::control_at;
@@ -22,6 +27,7 @@ use text::put;
 use text::put_named;
 use text::word;
 use text::wrong_number;
+use view::put_form;
 
 // What comes after an answer.
 pub enum Next {
@@ -57,40 +63,6 @@ fn copy_of(state: &[u8; STATE]) -> [u8; STATE]
 
 // ---- Questions
 
-// `0, 3, 4`, the bidders that have not filed: the place after them.
-fn put_missing(out: &mut [u8; ANSWER], at: usize, state: &[u8; STATE]) -> usize {
-    let n = book::bidders(state);
-    let mut to = at;
-    let mut b = 0;
-    while b < 32 {
-        if n <= b {
-            return to;
-        }
-        to = put_if_missing(out, to, at, state, b);
-        b += 1;
-    }
-    to
-}
-
-fn put_if_missing(
-    out: &mut [u8; ANSWER],
-    to: usize,
-    first: usize,
-    state: &[u8; STATE],
-    b: usize,
-) -> usize {
-    if 32 <= b {
-        return to;
-    }
-    if book::has_filed(state, b) {
-        return to;
-    }
-    if to == first {
-        return put_named(out, to, b"", b as u64);
-    }
-    put_named(out, to, b", ", b as u64)
-}
-
 fn ask_calculation(out: &mut [u8; ANSWER], state: &[u8; STATE]) -> usize {
     match console::count(state) {
         Count::ToFile(n) => {
@@ -98,7 +70,7 @@ fn ask_calculation(out: &mut [u8; ANSWER], state: &[u8; STATE]) -> usize {
                 return 0;
             }
             let a = put(out, 0, b"not filed yet, by bidder: ");
-            let b = put_missing(out, a, state);
+            let b = view::put_missing(out, a, state);
             put(
                 out,
                 b,
@@ -180,6 +152,18 @@ fn settle(
     told(done.said)
 }
 
+// What was put back is said after the answer's first line.
+fn undone(told: Said, out: &mut [u8; ANSWER], state: &[u8; STATE]) -> Said {
+    let next = told.next;
+    if out[0] != b'o' {
+        return Said { n: told.n, next };
+    }
+    Said {
+        n: view::put_back(out, told.n, state),
+        next,
+    }
+}
+
 // `undo`: the state before the last calculation or return comes back.
 fn undo(
     line: &[u8],
@@ -223,7 +207,125 @@ fn undo(
         }
     }
     let n = put(out, 0, b"ok\n");
-    settle(false, Act::Undo, n, kind, path, b"undo", state, copy, out)
+    let told = settle(false, Act::Undo, n, kind, path, b"undo", state, copy, out);
+    undone(told, out, state)
+}
+
+// ---- Names
+
+// The names of an auction go with it: an issued box has none.
+fn forget(names: &mut [u8; NAMES], state: &[u8; STATE]) {
+    if let Phase::Issued = Phase::of(book::phase(state)) {
+        *names = names::none();
+    }
+}
+
+// Why no name can be given: the length of what is said, or 0.
+fn unnamed(kind: Kind, state: &[u8; STATE], out: &mut [u8; ANSWER]) -> usize {
+    match number_on(kind, state) {
+        0 => 0,
+        3 => put(
+            out,
+            0,
+            b"error names belong to an auction; open one first\n",
+        ),
+        n => calls::refused(n, state, out),
+    }
+}
+
+fn save_part(path: &[u8], bytes: &[u8], n: usize) -> i32 {
+    if n <= bytes.len() {
+        return save_names(path, &bytes[0..n]);
+    }
+    save_names(path, bytes)
+}
+
+// Beside a box file the names are kept: 0, or the system's number for what failed.
+fn keep_names(kind: Kind, path: &[u8], names: &[u8; NAMES], out: &mut [u8; ANSWER]) -> i32 {
+    match kind {
+        Kind::Loose => 0,
+        Kind::Wrong => 0,
+        Kind::Filed => {
+            let n = names::put_file(out, names);
+            save_part(path, out, n)
+        }
+    }
+}
+
+fn not_kept(why: i32, out: &mut [u8; ANSWER]) -> usize {
+    let a = put(out, 0, b"error the names were not written: ");
+    let b = put_reason(out, a, why);
+    put(out, b, b"; nothing is changed\n")
+}
+
+// `ok`, and the number with its name, which is put beside it when the answer is written.
+fn put_given(given: Naming, out: &mut [u8; ANSWER]) -> usize {
+    let numbers = [given.number as u64];
+    if given.bidder {
+        return put_form(out, 0, b"ok\n  bidder &\n", &numbers);
+    }
+    put_form(out, 0, b"ok\n  product %\n", &numbers)
+}
+
+fn copy_names(names: &[u8; NAMES]) -> [u8; NAMES] {
+    *names
+}
+
+// `name bidder B NAME`, `name product P NAME`: a name that cannot be kept is not given.
+fn name(
+    line: &[u8],
+    c: Cursor,
+    kind: Kind,
+    path: &[u8],
+    names: &mut [u8; NAMES],
+    state: &[u8; STATE],
+    out: &mut [u8; ANSWER],
+) -> usize {
+    let given = names::asked_for(line, c, out);
+    if given.said != 0 {
+        return given.said;
+    }
+    let none = unnamed(kind, state, out);
+    if none != 0 {
+        return none;
+    }
+    let mut with = copy_names(names);
+    let wrong = names::take(
+        line,
+        given,
+        book::bidders(state),
+        book::products(state),
+        &mut with,
+        out,
+    );
+    if wrong != 0 {
+        return wrong;
+    }
+    let why = keep_names(kind, path, &with, out);
+    if why != 0 {
+        return not_kept(why, out);
+    }
+    *names = with;
+    put_given(given, out)
+}
+
+fn show_names(
+    line: &[u8],
+    c: Cursor,
+    kind: Kind,
+    names: &[u8; NAMES],
+    state: &[u8; STATE],
+    out: &mut [u8; ANSWER],
+) -> usize {
+    let more = ends(line, c, out);
+    if more != 0 {
+        return more;
+    }
+    let none = unnamed(kind, state, out);
+    if none != 0 {
+        return none;
+    }
+    names::show(out, names)
 }
 
 // ---- Commands
@@ -275,6 +377,7 @@ fn without_call(
     c: Cursor,
     kind: Kind,
     path: &[u8],
+    names: &mut [u8; NAMES],
     state: &mut [u8; STATE],
     out: &mut [u8; ANSWER],
 ) -> Said
@@ -282,6 +385,12 @@ fn without_call(
 {
     if same(w, b"undo") {
         return undo(line, c, kind, path, state, out);
+    }
+    if same(w, b"name") {
+        return told(name(line, c, kind, path, names, state, out));
+    }
+    if same(w, b"names") {
+        return told(show_names(line, c, kind, names, state, out));
     }
     if same(w, b"bail") {
         return bail(line, c, out);
@@ -305,6 +414,7 @@ fn command(
     asks: bool,
     kind: Kind,
     path: &[u8],
+    names: &mut [u8; NAMES],
     state: &mut [u8; STATE],
     out: &mut [u8; ANSWER],
 ) -> Said
@@ -312,9 +422,13 @@ fn command(
 {
     let mut work = copy_of(state);
     match make(w, line, c, kind, &mut work, out) {
-        Made::Done(act, n) => settle(asks, act, n, kind, path, given, state, work, out),
+        Made::Done(act, n) => {
+            let told = settle(asks, act, n, kind, path, given, state, work, out);
+            forget(names, state);
+            told
+        }
         Made::Said(n) => told(n),
-        Made::Other => without_call(w, at, line, c, kind, path, state, out),
+        Made::Other => without_call(w, at, line, c, kind, path, names, state, out),
     }
 }
 
@@ -331,6 +445,7 @@ pub fn answer(
     asks: bool,
     kind: Kind,
     path: &[u8],
+    names: &mut [u8; NAMES],
     state: &mut [u8; STATE],
     out: &mut [u8; ANSWER],
 ) -> Said
@@ -364,6 +479,7 @@ pub fn answer(
         asks,
         kind,
         path,
+        names,
         state,
         out,
     )

@@ -12,7 +12,11 @@ use audit::UNUSABLE;
 use check::same;
 use layout::STATE;
 use libc::STDIN_FILENO;
+use names::NAMES;
+use names::put_names;
+use rules::Phase;
 use store::Kind;
+use store::number_on;
 use text::ANSWER;
 use text::Cursor;
 use text::Input;
@@ -20,6 +24,7 @@ use text::join_lines;
 use text::keep_rest;
 use text::next_end;
 use text::put;
+use text::put_named;
 use text::read_again;
 use text::send;
 use text::word;
@@ -123,9 +128,22 @@ fn is_ok(out: &[u8; ANSWER], n: usize) -> bool {
     false
 }
 
+// Writes the answer with the names beside its numbers: whether all was taken.
+fn send_named(out: &[u8; ANSWER], n: usize, names: &[u8; NAMES]) -> bool {
+    let mut shown = io::large_buffer();
+    let k = put_names(&mut shown, out, n, names);
+    send(&shown, k)
+}
+
 // Writes the answer, and takes in what it was. `length` is that of the line.
-fn take_in(course: Course, told: Said, length: usize, out: &[u8; ANSWER]) -> Course {
-    if !send(out, told.n) {
+fn take_in(
+    course: Course,
+    told: Said,
+    length: usize,
+    names: &[u8; NAMES],
+    out: &[u8; ANSWER],
+) -> Course {
+    if !send_named(out, told.n, names) {
         return course.broken();
     }
     let next = told.next;
@@ -215,13 +233,14 @@ fn respond_to(
     course: Course,
     kind: Kind,
     path: &[u8],
+    names: &mut [u8; NAMES],
     state: &mut [u8; STATE],
     out: &mut [u8; ANSWER],
 ) -> Course
     ensures { λ _. ⌜ Served (now (state .entry)) (now (state .exit)) ⌝ }
 {
-    let told = answer(line, asks, kind, path, state, out);
-    take_in(course, told, line.len(), out)
+    let told = answer(line, asks, kind, path, names, state, out);
+    take_in(course, told, line.len(), names, out)
 }
 
 // The line that was asked about is done without asking again.
@@ -231,13 +250,23 @@ fn respond_held(
     course: Course,
     kind: Kind,
     path: &[u8],
+    names: &mut [u8; NAMES],
     state: &mut [u8; STATE],
     out: &mut [u8; ANSWER],
 ) -> Course
     ensures { λ _. ⌜ Served (now (state .entry)) (now (state .exit)) ⌝ }
 {
     if n <= held.len() {
-        return respond_to(&held[0..n], false, course.goes(), kind, path, state, out);
+        return respond_to(
+            &held[0..n],
+            false,
+            course.goes(),
+            kind,
+            path,
+            names,
+            state,
+            out,
+        );
     }
     course.goes()
 }
@@ -247,12 +276,13 @@ fn respond_yes(
     course: Course,
     kind: Kind,
     path: &[u8],
+    names: &mut [u8; NAMES],
     state: &mut [u8; STATE],
     out: &mut [u8; ANSWER],
 ) -> Course
     ensures { λ _. ⌜ Served (now (state .entry)) (now (state .exit)) ⌝ }
 {
-    respond_held(held, course.asked, course, kind, path, state, out)
+    respond_held(held, course.asked, course, kind, path, names, state, out)
 }
 
 fn respond_no(course: Course, out: &mut [u8; ANSWER]) -> Course {
@@ -302,6 +332,7 @@ fn respond(
     course: Course,
     kind: Kind,
     path: &[u8],
+    names: &mut [u8; NAMES],
     state: &mut [u8; STATE],
     out: &mut [u8; ANSWER],
 ) -> Course
@@ -313,12 +344,12 @@ fn respond(
         }
     }
     match reply_of(line, course.asked) {
-        Reply::Yes => return respond_yes(held, course, kind, path, state, out),
+        Reply::Yes => return respond_yes(held, course, kind, path, names, state, out),
         Reply::No => return respond_no(course, out),
         Reply::Other => {}
     }
     hold(line, held);
-    respond_to(line, manner.asks, course, kind, path, state, out)
+    respond_to(line, manner.asks, course, kind, path, names, state, out)
 }
 
 // ---- The lines of the input
@@ -351,6 +382,7 @@ fn one_line(
     course: Course,
     kind: Kind,
     path: &[u8],
+    names: &mut [u8; NAMES],
     state: &mut [u8; STATE],
     out: &mut [u8; ANSWER],
 ) -> Course
@@ -361,7 +393,17 @@ fn one_line(
         return course.goes();
     }
     join_lines(buf, from, to);
-    respond(&buf[from..to], held, manner, course, kind, path, state, out)
+    respond(
+        &buf[from..to],
+        held,
+        manner,
+        course,
+        kind,
+        path,
+        names,
+        state,
+        out,
+    )
 }
 
 // The place after a line's end: CR and LF together are one.
@@ -393,6 +435,7 @@ fn answer_lines(
     course: Course,
     kind: Kind,
     path: &[u8],
+    names: &mut [u8; NAMES],
     state: &mut [u8; STATE],
     out: &mut [u8; ANSWER],
 ) -> Lines
@@ -420,6 +463,7 @@ fn answer_lines(
             gone,
             kind,
             path,
+            names,
             state,
             out,
         );
@@ -439,7 +483,13 @@ fn answer_lines(
 }
 
 // What a line that is too long is answered; of a remark nothing is said.
-fn too_long(buf: &[u8], manner: Manner, course: Course, out: &mut [u8; ANSWER]) -> Course {
+fn too_long(
+    buf: &[u8],
+    manner: Manner,
+    course: Course,
+    names: &[u8; NAMES],
+    out: &mut [u8; ANSWER],
+) -> Course {
     if manner.echoes {
         if !echo(buf, out) {
             return course.broken();
@@ -453,7 +503,7 @@ fn too_long(buf: &[u8], manner: Manner, course: Course, out: &mut [u8; ANSWER]) 
         n,
         next: Next::Goes,
     };
-    take_in(course, told, 0, out)
+    take_in(course, told, 0, names, out)
 }
 
 // What is left in a full buffer without a line end: of a remark its mark, so that its rest is a remark too; of any other line nothing.
@@ -491,6 +541,7 @@ fn at_end(
     course: Course,
     kind: Kind,
     path: &[u8],
+    names: &mut [u8; NAMES],
     state: &mut [u8; STATE],
     out: &mut [u8; ANSWER],
 ) -> Turn
@@ -520,6 +571,7 @@ fn at_end(
         course,
         kind,
         path,
+        names,
         state,
         out,
     );
@@ -539,6 +591,7 @@ fn answer_read(
     course: Course,
     kind: Kind,
     path: &[u8],
+    names: &mut [u8; NAMES],
     state: &mut [u8; STATE],
     out: &mut [u8; ANSWER],
 ) -> Turn
@@ -555,6 +608,7 @@ fn answer_read(
         course,
         kind,
         path,
+        names,
         state,
         out,
     );
@@ -571,6 +625,45 @@ fn answer_read(
     }
 }
 
+// ---- What a person is shown before a line
+
+fn put_prompt(out: &mut [u8; ANSWER], kind: Kind, state: &[u8; STATE]) -> usize {
+    match number_on(kind, state) {
+        0 => match Phase::of(book::phase(state)) {
+            Phase::Closed => put(out, 0, b"closed> "),
+            Phase::Stopped => put(out, 0, b"stopped> "),
+            _ => {
+                let a = put_named(out, 0, b"round ", book::round(state) as u64);
+                put(out, a, b"> ")
+            }
+        },
+        3 => put(out, 0, b"issued> "),
+        1 => put(out, 0, b"box> "),
+        _ => put(out, 0, b"neither> "),
+    }
+}
+
+// To standard error, so that the answers alone are on standard output.
+fn prompt(asked: usize, kind: Kind, state: &[u8; STATE], out: &mut [u8; ANSWER]) {
+    let n = if asked == 0 {
+        put_prompt(out, kind, state)
+    } else {
+        put(out, 0, b"yes or no> ")
+    };
+    tell(out, n);
+}
+
+fn warn_first(out: &[u8], n: usize) {
+    if n <= out.len() {
+        text::warn(&out[0..n]);
+    }
+}
+
+// The first n bytes that were gathered, to the person at the desk.
+pub fn tell(out: &[u8; ANSWER], n: usize) {
+    warn_first(out, n);
+}
+
 // Reads once, and answers each line that is then whole.
 fn turned(
     buf: &mut [u8],
@@ -580,6 +673,7 @@ fn turned(
     course: Course,
     kind: Kind,
     path: &[u8],
+    names: &mut [u8; NAMES],
     state: &mut [u8; STATE],
     out: &mut [u8; ANSWER],
 ) -> Turn
@@ -588,11 +682,14 @@ fn turned(
     let end = from.end;
     let skipping = from.skipping;
     if buf.len() <= end {
-        let gone = too_long(buf, manner, course, out);
+        let gone = too_long(buf, manner, course, names, out);
         return Turn {
             input: after_full(buf, gone.ended),
             course: gone,
         };
+    }
+    if manner.asks & (end == 0) {
+        prompt(course.asked, kind, state, out);
     }
     let got = read_again(STDIN_FILENO, &mut buf[end..]);
     let n = io::count(got, &buf[end..]);
@@ -607,6 +704,7 @@ fn turned(
             course,
             kind,
             path,
+            names,
             state,
             out,
         );
@@ -620,6 +718,7 @@ fn turned(
         course,
         kind,
         path,
+        names,
         state,
         out,
     )
@@ -637,10 +736,17 @@ fn status_of(manner: Manner, course: Course) -> u8 {
 
 // Serves the lines of standard input: the status. A proved loop has to end, and nothing says that an input does: so it counts its turns
 // down, from a number that no run uses up.
-pub fn serve(manner: Manner, kind: Kind, path: &[u8], state: &mut [u8; STATE]) -> u8
+pub fn serve(
+    manner: Manner,
+    kind: Kind,
+    path: &[u8],
+    given: [u8; NAMES],
+    state: &mut [u8; STATE],
+) -> u8
     ensures { λ _. ⌜ Served (now (state .entry)) (now (state .exit)) ⌝ }
 {
     let mut out = io::large_buffer();
+    let mut names = given;
     let mut held = [0u8; LINE];
     let mut buf = [0u8; LINE];
     let mut at = Input::begun();
@@ -655,6 +761,7 @@ pub fn serve(manner: Manner, kind: Kind, path: &[u8], state: &mut [u8; STATE]) -
             gone,
             kind,
             path,
+            &mut names,
             state,
             &mut out,
         );

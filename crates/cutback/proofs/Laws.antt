@@ -2,7 +2,7 @@
 use mathlib.Core.Path.{_≡_, refl, sym, ap, ap₂, _∙_}
 use mathlib.Core.Bool.{Bool, true, false, _&&_, cond}
 use mathlib.Core.List.{List}
-use Prim.Native.Nat.{ℕ, zero, suc, _+_, _*_, _-_, _%_, _≤_, _<_}
+use Prim.Native.Nat.{ℕ, zero, suc, _+_, _*_, _-_, _%_, _≤_, _<_, min}
 use native.Mathlib.Omega.{arith}
 use borrow.Author.Tests.{le-leb, le-ltb, leb-true, leb-false, eqb-true, ne-eqb}
 use lib.Dec.{leb, ltb, eqb}
@@ -14,13 +14,14 @@ use Rattle.rules.specs.Count.{sumUpTo, allUpTo, listOf}
 use Rattle.rules.specs.Units.{tranches}
 use Rattle.rules.specs.Answers.{bidsOpen, stopped}
 use Rattle.rules.specs.Parts.{tranchesAt, noLane, laneAt, priced, limited, auction, withPhase, withLimits, withPrices}
-use Rattle.rules.specs.Settings.{setup, targetOf, capOf, startOf}
+use Rattle.rules.specs.Settings.{between, setup, targetOf, capOf, startOf}
 use Rattle.rules.specs.Held.{nothing, goingIn, heldIn, recordAt, place, setTo}
 use Rattle.rules.specs.Accept.{at, nowhere, placeAt, column, heldOf}
 use Rattle.rules.specs.Bid.{recordOf}
 use Rattle.rules.specs.Round.{opensAt, priceNext, beforeNext, stops}
 use Rattle.rules.specs.Cutback.{givenFor, numbersFit, freeCut, setToCaps, reduced, cutBack}
 use Rattle.rules.specs.Layout.{loaded}
+use Rattle.rules.proofs.Allowed.{leb-min}
 use Rattle.rules.proofs.Sums.{sum-ext, sum-le, and-left}
 use Rattle.rules.proofs.Lists.{list-at, list-ext, all-take}
 use Rattle.rules.proofs.Parts.{target-is, free-ext}
@@ -36,6 +37,26 @@ use Rattle.prices.proofs.Laws.{stops-of, price-of, before-of}
 use Rattle.cutback.specs.Cuttable.{fitsAfter, limitedTo, Cuttable, Cutting}
 
 -- ---- the numbers
+
+regroup : (a b c d e f : Bool) → ((a && (b && c)) && (d && (e && f))) ≡ ((b && e) && ((a && d) && (c && f)))
+regroup true false c d e f = refl
+regroup false false c d e f = refl
+regroup false true c d false f = refl
+regroup false true c d true f = refl
+regroup true true false d false f = refl
+regroup true true true true false f = refl
+regroup true true true false false f = refl
+regroup true true true d true f = refl
+regroup true true false true true f = refl
+regroup true true false false true f = refl
+
+-- the limits as the tests of a target and a cap
+pub limits-are : (t : Setup) (target cap last p : ℕ)
+    → (between 1 target (min (targetOf t p) last) && between 1 cap (min (capOf t p) target))
+    ≡ ((leb target (targetOf t p) && leb cap (capOf t p)) && ((leb 1 target && leb 1 cap) && (leb target last && leb cap target)))
+limits-are t target cap last p =
+    rw (leb-min target (targetOf t p) last, leb-min cap (capOf t p) target)
+    (regroup (leb 1 target) (leb target (targetOf t p)) (leb target last) (leb 1 cap) (leb cap (capOf t p)) (leb cap target))
 
 -- the target before product p; the first has none
 unfoldable pub lastOf : List Tranches → ℕ → ℕ

@@ -1,10 +1,11 @@
 // Document 02, request 3: "Volume cutback after round 1": whether it may be done, the auction that it leaves, and the helper.
 ghost use mathlib.Core.Path.{_≡_};
-ghost use Prim.Native.Nat.{_%_, _<_};
+ghost use Prim.Native.Nat.{_%_, _<_, min};
 ghost use lib.ListN.{length};
-ghost use Rattle.rules.specs.Count.{listOf};
+ghost use Rattle.rules.specs.Count.{sumUpTo, listOf};
+ghost use Rattle.rules.specs.Allowed.{limits};
 ghost use Rattle.rules.specs.Units.{tranches};
-ghost use Rattle.rules.specs.Settings.{setup, startOf};
+ghost use Rattle.rules.specs.Settings.{setup, targetOf, capOf, startOf};
 ghost use Rattle.rules.specs.Held.{recordAt, setTo};
 ghost use Rattle.rules.specs.Accept.{at};
 ghost use Rattle.rules.specs.Cutback.{givenFor, mayCut, freeCut, cutBack};
@@ -15,6 +16,7 @@ ghost use Rattle.table.specs.Rows.{placesIn};
 ghost use Rattle.prices.specs.Outlook.{Listed};
 ghost use Rattle.cutback.specs.Cuttable.{fitsAfter, Cuttable, limitedTo, Cutting};
 use prices::Lanes;
+use rules::Limits;
 use rules::Lot;
 use rules::OPEN;
 use rules::Place;
@@ -27,20 +29,62 @@ use table::WIDTH;
 
 // ---- 20: "any condition on the cutback above not met"
 
-// "none larger than before and none 0, targets still ranked, caps at most targets"; past the products in use 0. The target before it
-// is last.
-fn numbers_fit(s: &[u8], target: Tranches, cap: Tranches, last: Tranches, p: usize) -> bool
+// "If round 1 leaves the auction open": the round that a cutback belongs to.
+pub const ROUND: u16 = 2;
+
+// A revised target, "none larger than before and none 0, targets still ranked": the target before it is last.
+pub fn target_limits(s: &[u8], last: u32, p: usize) -> Limits
     requires { ⌜ Long (now s) × (p < 8) ⌝ }
-    ensures { λ r. ⌜ r ≡ fitsAfter (setup (loaded (now (s .entry)))) (target .0) (cap .0) (last .0) p ⌝ }
+    ensures { λ r. ⌜ r ≡ limits 1 (min (targetOf (setup (loaded (now (s .entry)))) p) last) ⌝ }
+{
+    let had = book::target(s, p);
+    let own = Limits {
+        least: 1,
+        most: had.0 as u32,
+    };
+    own.under(last)
+}
+
+// A revised cap, the same and "caps at most targets".
+pub fn cap_limits(s: &[u8], target: Tranches, p: usize) -> Limits
+    requires { ⌜ Long (now s) × (p < 8) ⌝ }
+    ensures { λ r. ⌜ r ≡ limits 1 (min (capOf (setup (loaded (now (s .entry)))) p) (target .0)) ⌝ }
+{
+    let had = book::cap(s, p);
+    let own = Limits {
+        least: 1,
+        most: had.0 as u32,
+    };
+    own.under(target.0 as u32)
+}
+
+// Past the products in use both 0.
+fn numbers_fit(s: &[u8], target: Tranches, cap: Tranches, last: u32, p: usize) -> bool
+    requires { ⌜ Long (now s) × (p < 8) ⌝ }
+    ensures { λ r. ⌜ r ≡ fitsAfter (setup (loaded (now (s .entry)))) (target .0) (cap .0) last p ⌝ }
 {
     if p >= book::products(s) {
         return (target.0 == 0) & (cap.0 == 0);
     }
-    let had = book::target(s, p);
-    let capped = book::cap(s, p);
-    ((target.0 <= had.0) & (cap.0 <= capped.0))
-        & (((1 <= target.0) & (1 <= cap.0)) & ((target.0 <= last.0) & (cap.0 <= target.0)))
+    target_limits(s, last, p).holds(target.0 as u32) & cap_limits(s, target, p).holds(cap.0 as u32)
 }
+
+// The volume that they make.
+pub fn volume(targets: [Tranches; 8]) -> u32
+    ensures { λ r. ⌜ r ≡ sumUpTo (givenFor targets) 8 ⌝ }
+{
+    let mut sum: u32 = 0;
+    let mut p: usize = 0;
+    while p < 8 {
+        let target = targets[p];
+        sum += target.0 as u32;
+        p += 1;
+    }
+    sum
+}
+
+// No target is above this: the first product has none before it.
+pub const ANY: u32 = 65535;
 
 // "If round 1 leaves the auction open and no round 2 card is filed, the manager may give revised targets and product caps".
 // "The statewide cap stays, so a new volume below it is refused." Past the products in use the targets are 0, or do not fit.
@@ -49,19 +93,18 @@ pub fn may_cut(s: &[u8], targets: [Tranches; 8], caps: [Tranches; 8]) -> bool
     ensures { λ r. ⌜ r ≡ mayCut (loaded (now (s .entry))) targets caps ⌝ }
 {
     let mut fit = true;
-    let mut volume: u32 = 0;
-    let mut last = Tranches(65535);
+    let mut last = ANY;
     let mut p: usize = 0;
     while p < 8 {
         let target = targets[p];
         let cap = caps[p];
         fit = fit & numbers_fit(s, target, cap, last, p);
-        volume += target.0 as u32;
-        last = target;
+        last = target.0 as u32;
         p += 1;
     }
     let statewide = book::statewide(s);
-    (book::round(s) == 2) & ((book::filed(s) == 0) & (fit & (statewide.0 as u32 <= volume)))
+    (book::round(s) == ROUND)
+        & ((book::filed(s) == 0) & (fit & (statewide.0 as u32 <= volume(targets))))
 }
 
 // ---- The cutback
@@ -191,6 +234,9 @@ pub fn cut_back(s: &mut [u8], targets: [Tranches; 8], caps: [Tranches; 8])
 
 // ---- The helper
 
+// "more than 51,200 tranches bid" have no volume.
+pub const MOST_BID: u32 = 51200;
+
 // "tranches bid times 100 over the target ratio in hundredths, rounded down"; 31, "a ratio of 0 or more than 51,200 tranches bid".
 pub fn suggested_volume(bid: u32, ratio: u32) -> Volume
     ensures { λ r. ⌜ r ≡ suggestedCall bid ratio ⌝ }
@@ -198,7 +244,7 @@ pub fn suggested_volume(bid: u32, ratio: u32) -> Volume
     if ratio == 0 {
         return Volume::Refused(31);
     }
-    if bid > 51200 {
+    if bid > MOST_BID {
         return Volume::Refused(31);
     }
     Volume::Suggested(bid * 100 / ratio)

@@ -9,12 +9,17 @@ use asked::one_number;
 use asked::two_bytes;
 use calls::bytes_of;
 use calls::card_length;
+use calls::not_written;
 use calls::other_length;
 use calls::put_card;
+use calls::refused;
 use check::same;
 use layout::STATE;
 use rules::Answer;
+use rules::Award;
+use rules::Card;
 use rules::Count;
+use rules::Report;
 use rules::Volume;
 use store::Kind;
 use store::number_on;
@@ -22,7 +27,8 @@ use text::ANSWER;
 use text::Cursor;
 use text::put;
 use text::put_named;
-use view::refused;
+use text::word;
+use view::put_refused;
 
 // `ok N`
 fn put_number(out: &mut [u8; ANSWER], n: u32) -> usize {
@@ -30,18 +36,101 @@ fn put_number(out: &mut [u8; ANSWER], n: u32) -> usize {
     put(out, a, b"\n")
 }
 
-fn count(line: &[u8], c: Cursor, kind: Kind, state: &[u8; STATE], out: &mut [u8; ANSWER]) -> usize {
+// How many bidders are to file, or the length of the refusal.
+enum Asked {
+    ToFile(u32),
+    Said(usize),
+}
+
+fn to_file(
+    line: &[u8],
+    c: Cursor,
+    kind: Kind,
+    state: &[u8; STATE],
+    out: &mut [u8; ANSWER],
+) -> Asked {
     let more = ends(line, c, out);
     if more != 0 {
-        return more;
+        return Asked::Said(more);
     }
     let wrong = other_length(kind, state, out);
     if wrong != 0 {
-        return wrong;
+        return Asked::Said(wrong);
     }
     match console::count(state) {
-        Count::ToFile(n) => put_number(out, n),
-        Count::Refused(n) => refused(out, n),
+        Count::ToFile(n) => Asked::ToFile(n),
+        Count::Refused(n) => Asked::Said(refused(n, state, out)),
+    }
+}
+
+fn count(line: &[u8], c: Cursor, kind: Kind, state: &[u8; STATE], out: &mut [u8; ANSWER]) -> usize {
+    match to_file(line, c, kind, state, out) {
+        Asked::ToFile(n) => put_number(out, n),
+        Asked::Said(n) => n,
+    }
+}
+
+// `ok N`, and who is still to file.
+fn missing(
+    line: &[u8],
+    c: Cursor,
+    kind: Kind,
+    state: &[u8; STATE],
+    out: &mut [u8; ANSWER],
+) -> usize {
+    match to_file(line, c, kind, state, out) {
+        Asked::ToFile(n) => {
+            let a = put_number(out, n);
+            let b = put(out, a, b"  ");
+            let d = view::put_waiting(out, b, state);
+            put(out, d, b"\n")
+        }
+        Asked::Said(n) => n,
+    }
+}
+
+// `filed B`: 6 as for a card.
+fn filed_by(
+    b: u32,
+    line: &[u8],
+    c: Cursor,
+    kind: Kind,
+    state: &[u8; STATE],
+    out: &mut [u8; ANSWER],
+) -> usize {
+    match to_file(line, c, kind, state, out) {
+        Asked::ToFile(_) => {
+            if (b as usize) < book::bidders(state) {
+                return view::card(out, state, b as usize);
+            }
+            no_bidder(one_byte(b), state, out)
+        }
+        Asked::Said(n) => n,
+    }
+}
+
+fn no_bidder(bidder: u8, state: &[u8; STATE], out: &mut [u8; ANSWER]) -> usize {
+    let a = put_refused(out, 6);
+    let b = remark::of_report(out, a, 6, state, bidder);
+    put(out, b, b"\n")
+}
+
+fn is_end(line: &[u8], c: Cursor) -> bool {
+    let span = word(line, c);
+    span.from == span.to
+}
+
+// `filed`, `filed B`
+fn filed(line: &[u8], c: Cursor, kind: Kind, state: &[u8; STATE], out: &mut [u8; ANSWER]) -> usize {
+    if !is_end(line, c) {
+        return match one_number(line, c, out) {
+            One::Number(b, next) => filed_by(b, line, next, kind, state, out),
+            One::Said(n) => n,
+        };
+    }
+    match to_file(line, c, kind, state, out) {
+        Asked::ToFile(n) => view::cards(out, state, n),
+        Asked::Said(n) => n,
     }
 }
 
@@ -55,7 +144,11 @@ fn suggest_for(bid: u32, line: &[u8], c: Cursor, out: &mut [u8; ANSWER]) -> usiz
             }
             match console::suggested_volume(bid, ratio) {
                 Volume::Suggested(n) => put_number(out, n),
-                Volume::Refused(n) => refused(out, n),
+                Volume::Refused(n) => {
+                    let a = put_refused(out, n);
+                    let b = remark::of_volume(out, a, n, bid, ratio);
+                    put(out, b, b"\n")
+                }
             }
         }
         One::Said(n) => n,
@@ -69,8 +162,51 @@ fn suggest(line: &[u8], c: Cursor, out: &mut [u8; ANSWER]) -> usize {
     }
 }
 
+// "bids not open (for report: issued)"
+fn report_refused(n: u8, bidder: u8, state: &[u8; STATE], out: &mut [u8; ANSWER]) -> usize {
+    let a = if n == 3 {
+        put(out, 0, b"refused 3 issued")
+    } else {
+        put_refused(out, n)
+    };
+    let b = remark::of_report(out, a, n, state, bidder);
+    put(out, b, b"\n")
+}
+
+fn report_on(bidder: u8, state: &[u8; STATE], out: &mut [u8; ANSWER]) -> usize {
+    let given = console::report(state, bidder);
+    let report = given.report;
+    if let Report::Refused(n) = report {
+        return report_refused(n, bidder, state, out);
+    }
+    view::report(out, state, bidder as usize, given)
+}
+
+// The reports to all bidders, one after the other.
+fn put_reports(state: &[u8; STATE], out: &mut [u8; ANSWER]) -> usize {
+    let n = book::bidders(state);
+    let mut to = put_number(out, n as u32);
+    let mut b: usize = 0;
+    while b < 32 {
+        if b < n {
+            to = view::put_reported(out, to, state, b, console::report(state, b as u8));
+        }
+        b += 1;
+    }
+    to
+}
+
+// `report all`
+fn report_all(state: &[u8; STATE], out: &mut [u8; ANSWER]) -> usize {
+    let report = console::report(state, 0).report;
+    if let Report::Refused(n) = report {
+        return report_refused(n, 0, state, out);
+    }
+    put_reports(state, out)
+}
+
 // `report B`
-fn report(
+fn report_to(
     line: &[u8],
     c: Cursor,
     kind: Kind,
@@ -87,14 +223,34 @@ fn report(
             if wrong != 0 {
                 return wrong;
             }
-            view::report(
-                out,
-                console::report(state, one_byte(b)),
-                book::products(state),
-            )
+            report_on(one_byte(b), state, out)
         }
         One::Said(n) => n,
     }
+}
+
+fn report(
+    line: &[u8],
+    c: Cursor,
+    kind: Kind,
+    state: &[u8; STATE],
+    out: &mut [u8; ANSWER],
+) -> usize {
+    let span = word(line, c);
+    let a = span.from;
+    let e = span.to;
+    if !same(&line[a..e], b"all") {
+        return report_to(line, c, kind, state, out);
+    }
+    let more = ends(line, Cursor { at: e }, out);
+    if more != 0 {
+        return more;
+    }
+    let wrong = other_length(kind, state, out);
+    if wrong != 0 {
+        return wrong;
+    }
+    report_all(state, out)
 }
 
 fn result(
@@ -112,12 +268,12 @@ fn result(
     if wrong != 0 {
         return wrong;
     }
-    view::result(
-        out,
-        console::result(state),
-        book::bidders(state),
-        book::products(state),
-    )
+    let given = console::result(state);
+    let award = given.award;
+    if let Award::Refused(n) = award {
+        return refused(n, state, out);
+    }
+    view::result(out, state, given)
 }
 
 fn show(line: &[u8], c: Cursor, kind: Kind, state: &[u8; STATE], out: &mut [u8; ANSWER]) -> usize {
@@ -128,7 +284,7 @@ fn show(line: &[u8], c: Cursor, kind: Kind, state: &[u8; STATE], out: &mut [u8; 
     match number_on(kind, state) {
         0 => view::show(out, state),
         3 => put(out, 0, b"ok issued\n"),
-        n => refused(out, n),
+        n => refused(n, state, out),
     }
 }
 
@@ -149,11 +305,22 @@ fn read(line: &[u8], c: Cursor, out: &mut [u8; ANSWER]) -> usize {
     }
 }
 
+fn read_bytes(card: &[u8], products: usize, out: &mut [u8; ANSWER]) -> usize {
+    let got = console::read(card, products);
+    let answer = got.card;
+    if let Card::Refused(n) = answer {
+        let a = put_refused(out, n);
+        let b = remark::of_read(out, a, n, card, products);
+        return put(out, b, b"\n");
+    }
+    view::bid(out, got, products)
+}
+
 fn read_part(card: &[u8], k: usize, products: usize, out: &mut [u8; ANSWER]) -> usize {
     if k <= card.len() {
-        return view::bid(out, console::read(&card[0..k], products), products);
+        return read_bytes(&card[0..k], products, out);
     }
-    view::bid(out, console::read(card, products), products)
+    read_bytes(card, products, out)
 }
 
 // A bid of so many products, as a card.
@@ -164,20 +331,17 @@ fn write_card(
     numbers: [u32; 40],
     out: &mut [u8; ANSWER],
 ) -> usize {
+    let lines = lines_of(numbers);
+    let b = one_byte(bidder);
+    let r = two_bytes(round);
     let k = card_length(products);
     let mut room = [0u8; 1024];
-    match console::write(
-        &mut room[0..k],
-        products,
-        one_byte(bidder),
-        two_bytes(round),
-        lines_of(numbers),
-    ) {
+    match console::write(&mut room[0..k], products, b, r, lines) {
         Answer::Done => {
             let card = bytes_of(room);
             put_card(out, &card[0..k])
         }
-        Answer::Refused(n) => refused(out, n),
+        Answer::Refused(n) => not_written(n, products, b, r, lines, out),
     }
 }
 
@@ -211,56 +375,23 @@ fn write(line: &[u8], c: Cursor, out: &mut [u8; ANSWER]) -> usize {
     }
 }
 
-fn help_state(out: &mut [u8; ANSWER]) -> usize {
-    let a = put(out, 0, b"ok\n");
-    let b = put(
-        out,
-        a,
-        b"  open UNIT STATEWIDE product T C P .. bidder E .. row PCT DEC ..   open an auction:\n      UNIT is kwh or mwday; T C P are a product's target, cap and starting price;\n      E is a bidder's initial eligibility; PCT DEC are a row's percentage and decrement\n",
-    );
-    let c = put(
-        out,
-        b,
-        b"  file HEX   file a card\n  bid B T W X P ..   write bidder B's card of the present round and file it:\n      T W X P are a product's tranches, withdrawn, exit and priority\n",
-    );
-    let d = put(
-        out,
-        c,
-        b"  count   how many bidders are still to file\n  calculate D0 D1 ..   calculate the round; the bidders in draw order\n",
-    );
-    let e = put(
-        out,
-        d,
-        b"  suggest BID RATIO   the suggested volume for BID tranches bid:\n      RATIO is the target ratio in hundredths\n  cutback T C ..   cut the volume after round 1, before a card of round 2 is filed:\n      T C are a product's revised target and cap\n",
-    );
-    put(
-        out,
-        e,
-        b"  report B   the report to bidder B\n  result   awards and prices of a closed auction\n  show   the whole state\n  return   return the box\n",
-    )
-}
-
-fn help(line: &[u8], c: Cursor, out: &mut [u8; ANSWER]) -> usize {
-    let more = ends(line, c, out);
+// `help`, `help COMMAND`
+fn help_on(line: &[u8], c: Cursor, out: &mut [u8; ANSWER]) -> usize {
+    let span = word(line, c);
+    let a = span.from;
+    let e = span.to;
+    if a == e {
+        return help::put_all(out);
+    }
+    let more = ends(line, Cursor { at: e }, out);
     if more != 0 {
         return more;
     }
-    let a = help_state(out);
-    let b = put(
-        out,
-        a,
-        b"  undo   put back the state before the last calculation or return, once\n",
-    );
-    let d = put(
-        out,
-        b,
-        b"  read N HEX   read a card of N products\n  write N B R T W X P ..   write bidder B's card of round R for N products\n",
-    );
-    put(
-        out,
-        d,
-        b"  bail on, bail off   end at the first line that is not answered ok, or go on\n  quit   end; so does exit\n  help   these lines\n",
-    )
+    let n = help::put_help(out, &line[a..e]);
+    if n != 0 {
+        return n;
+    }
+    text::wrong(out, b"no such command; help lists them", a)
 }
 
 // The commands that need no state.
@@ -275,7 +406,10 @@ fn look_up(w: &[u8], at: usize, line: &[u8], c: Cursor, out: &mut [u8; ANSWER]) 
         return write(line, c, out);
     }
     if same(w, b"help") {
-        return help(line, c, out);
+        return help_on(line, c, out);
+    }
+    if same(w, b"?") {
+        return help_on(line, c, out);
     }
     text::wrong(out, b"no such command; help lists them", at)
 }
@@ -292,6 +426,12 @@ pub fn look(
 ) -> usize {
     if same(w, b"count") {
         return count(line, c, kind, state, out);
+    }
+    if same(w, b"missing") {
+        return missing(line, c, kind, state, out);
+    }
+    if same(w, b"filed") {
+        return filed(line, c, kind, state, out);
     }
     if same(w, b"report") {
         return report(line, c, kind, state, out);

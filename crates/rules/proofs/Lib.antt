@@ -3,6 +3,7 @@ pub mod Lists
 pub mod Parts
 pub mod Fill
 pub mod Tests
+pub mod Allowed
 pub mod Units
 pub mod All
 pub mod Signed

@@ -3,6 +3,7 @@ pub mod Units
 pub mod Answers
 pub mod Parts
 pub mod Settings
+pub mod Allowed
 pub mod Layout
 pub mod Bits
 pub mod Card

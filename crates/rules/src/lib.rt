@@ -1,10 +1,11 @@
 // The words of documents 01 and 02 as types, with the small methods that belong to them. What they mean stands in specs/, in the
 // order of document 01.
 ghost use mathlib.Core.Path.{_≡_};
-ghost use Prim.Native.Nat.{_+_, _-_, _≤_, _<_};
+ghost use Prim.Native.Nat.{_+_, _-_, _≤_, _<_, min};
 ghost use Rattle.rules.specs.Units.{kwh, mwDay, unitNumber, unitOf, amountOf, priceOf};
+ghost use Rattle.rules.specs.Allowed.{limits, allows};
 ghost use Rattle.rules.specs.Answers.{phaseOf};
-ghost use Rattle.rules.specs.Card.{noLine, lineFits, lineZero};
+ghost use Rattle.rules.specs.Card.{noLine, lineZero};
 ghost use Rattle.rules.specs.Held.{nothing, goingIn, deniedIn, retainedIn, heldIn, keptIn, retained, denied, cancelled, deemed, switchOutbid, withdrawalOutbid, setTo};
 ghost use Rattle.rules.specs.Legal.{recordZero};
 ghost use Rattle.rules.specs.Accept.{leavingOf, movingOf, riseOf, retain, deny, cancel, deem, outbidSwitch, outbidWithdrawal};
@@ -126,6 +127,35 @@ pub struct Quote {
     pub price: Price,
 }
 
+// ---- What a number may be
+
+// From the least to the most, both with it; nothing where the least is above the most.
+pub struct Limits {
+    pub least: u32,
+    pub most: u32,
+}
+
+impl Limits {
+    pub fn holds(self, x: u32) -> bool
+        ensures { λ r. ⌜ r ≡ allows self x ⌝ }
+    {
+        (self.least <= x) & (x <= self.most)
+    }
+
+    // And at most this.
+    pub fn under(self, most: u32) -> Limits
+        ensures { λ r. ⌜ r ≡ limits (self .least) (min (self .most) most) ⌝ }
+    {
+        if self.most <= most {
+            return self;
+        }
+        Limits {
+            least: self.least,
+            most,
+        }
+    }
+}
+
 // ---- Settings, as a manager gives them
 
 pub struct Product {
@@ -178,15 +208,6 @@ impl Line {
             },
             priority: 0,
         }
-    }
-
-    // Whether every field fits its bits on a card.
-    pub fn fits(self) -> bool
-        ensures { λ r. ⌜ r ≡ lineFits self ⌝ }
-    {
-        (self.tranches.0 < 256)
-            & ((self.withdrawn.count.0 < 256)
-                & ((self.withdrawn.exit < 131072) & (self.priority < 8)))
     }
 
     pub fn is_zero(self) -> bool

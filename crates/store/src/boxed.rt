@@ -1,9 +1,11 @@
 // Where the state lives, and what is done with a state that a call has changed.
 ghost use mathlib.Core.Bool.{cond, true, false};
 ghost use mathlib.Core.Path.{_≡_};
+use crate::files::Filled;
 use crate::files::Loaded;
 use crate::files::equal;
 use crate::files::load;
+use crate::files::read_whole;
 use crate::files::same;
 use crate::names::beside;
 use crate::reason::put_reason;
@@ -271,6 +273,22 @@ pub fn is_beside(path: &[u8], ending: &[u8]) -> bool {
     }
     libc::close(fd);
     true
+}
+
+// Reads the file of names beside the box: how many bytes it has, none where there is no such file.
+pub fn load_names(path: &[u8], room: &mut [u8; ANSWER]) -> Filled {
+    let mut name = io::buffer();
+    let n = beside(path, b".names", &mut name);
+    let fd = os::open_read(&name[..n]);
+    if fd < 0 {
+        if os::errno() == libc::ENOENT {
+            return Filled::Bytes(0);
+        }
+        return Filled::Failed;
+    }
+    let filled = read_whole(fd, room);
+    libc::close(fd);
+    filled
 }
 
 // Opens the box's journal for reading, and answers a descriptor or -1.

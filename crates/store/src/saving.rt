@@ -509,6 +509,35 @@ fn log(
     Logged { saved, spot }
 }
 
+// ---- The names of bidders and products
+
+// The names of an auction are gone with it.
+pub fn drop_names(path: &[u8]) {
+    let mut names = io::buffer();
+    let n = beside(path, b".names", &mut names);
+    if n != 0 {
+        os::unlink(&names[..n]);
+    }
+}
+
+// Puts the file of names in its place, or takes it away where it would be empty: 0, or the system's number for what failed.
+pub fn save_names(path: &[u8], bytes: &[u8]) -> i32 {
+    let mut names = io::buffer();
+    let n = beside(path, b".names", &mut names);
+    if n == 0 {
+        return libc::ENAMETOOLONG;
+    }
+    if bytes.len() == 0 {
+        drop_names(path);
+        return sync_folder(path);
+    }
+    let placed = place(path, &names[..n], bytes, seen(path));
+    if !is_done(placed) {
+        return placed.why;
+    }
+    sync_folder(path)
+}
+
 // ---- All of it
 
 fn finish(act: Act, path: &[u8], before: &[u8], journal: &[u8]) -> Saved {
@@ -519,6 +548,7 @@ fn finish(act: Act, path: &[u8], before: &[u8], journal: &[u8]) -> Saved {
             Act::Calculation => return done(),
             Act::Return => {
                 set_aside(journal);
+                drop_names(path);
             }
             // What was kept of an earlier auction ends with the next, and a copy that was put back is used up.
             Act::Opening => {

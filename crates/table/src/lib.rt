@@ -4,6 +4,9 @@ mod draw;
 
 pub use draw::bidder_at;
 pub use draw::draw_fits;
+pub use draw::is_drawn;
+pub use draw::is_known;
+pub use draw::times_drawn;
 ghost use mathlib.Core.Path.{_≡_};
 ghost use Prim.Native.Nat.{_≤_, _<_};
 ghost use lib.ListN.{set};

@@ -1,8 +1,14 @@
 // The answers of `report`, `result` and `read`.
 ghost use Prim.Native.Nat.{_<_};
+use crate::bidding::put_read;
+use crate::price::put_price;
+use crate::price::put_unit;
 use crate::put_form;
 use crate::put_phase;
-use crate::refused;
+use crate::round::is_open;
+use crate::round::put_now;
+use crate::state::put_fields;
+use layout::STATE;
 use rules::Award;
 use rules::Awarded;
 use rules::Card;
@@ -25,7 +31,50 @@ fn put_standing(out: &mut [u8; ANSWER], phase: Phase, range: Range, free: Tranch
     put_form(out, a, b" excess #-# free #\n", &numbers)
 }
 
-fn put_holding(out: &mut [u8; ANSWER], at: usize, p: usize, quote: Quote, r: Record) -> usize {
+// The round that was calculated last: where bids are open, the one before.
+fn last_round(s: &[u8; STATE]) -> u16 {
+    let round = book::round(s);
+    if round == 0 {
+        return 0;
+    }
+    if is_open(s) {
+        return round - 1;
+    }
+    round
+}
+
+// To whom, and what is not of one product.
+fn put_heading(
+    out: &mut [u8; ANSWER],
+    at: usize,
+    s: &[u8; STATE],
+    b: usize,
+    range: Range,
+    free: Tranches,
+) -> usize {
+    let whom = [b as u64, last_round(s) as u64];
+    let a = put_form(out, at, b"  to bidder & after round #: ", &whom);
+    let c = put_now(out, a, s);
+    let numbers = [range.low as u64, range.high as u64, free.0 as u64];
+    let d = put_form(
+        out,
+        c,
+        b"; total excess supply #-#; free eligibility #\n  prices in ",
+        &numbers,
+    );
+    let e = put_unit(out, d, book::unit(s));
+    put(out, e, b"\n")
+}
+
+// A record at its going price, and the prices as people say them.
+fn put_holding(
+    out: &mut [u8; ANSWER],
+    at: usize,
+    unit: u8,
+    p: usize,
+    quote: Quote,
+    r: Record,
+) -> usize {
     let price = quote.price;
     let amount = price.amount();
     let numbers = [
@@ -36,18 +85,25 @@ fn put_holding(out: &mut [u8; ANSWER], at: usize, p: usize, quote: Quote, r: Rec
         r.retained.count.0 as u64,
         r.retained.exit as u64,
     ];
-    put_form(
+    let a = put_form(
         out,
         at,
-        b"  product # price # going # denied # retained # exit #\n",
+        b"  product % price # going # denied # retained # exit #\n    ",
         &numbers,
-    )
+    );
+    let mut to = put_price(out, a, unit, amount);
+    if 0 < r.retained.count.0 {
+        let b = put(out, to, b"; retained at ");
+        to = put_price(out, b, unit, r.retained.exit);
+    }
+    put(out, to, b"\n")
 }
 
 // The bidder's own record of each product, with its going price.
 fn put_holdings(
     out: &mut [u8; ANSWER],
     at: usize,
+    unit: u8,
     prices: [Quote; 8],
     records: [Record; 8],
     products: usize,
@@ -55,51 +111,133 @@ fn put_holdings(
     let mut to = at;
     let mut p = 0;
     while p < 8 {
-        if products <= p {
-            return to;
+        if p < products {
+            to = put_holding(out, to, unit, p, prices[p], records[p]);
         }
-        to = put_holding(out, to, p, prices[p], records[p]);
         p += 1;
     }
     to
 }
 
-pub fn report(out: &mut [u8; ANSWER], given: Reported, products: usize) -> usize {
-    let report = given.report;
-    match report {
-        Report::Given { free, phase, range } => {
-            let prices = given.prices;
-            let records = given.records;
-            let a = put_standing(out, phase, range, free);
-            put_holdings(out, a, prices, records, products)
-        }
-        Report::Refused(n) => {
-            // "bids not open (for report: issued)"
-            if n == 3 {
-                put(out, 0, b"refused 3 issued\n")
-            } else {
-                refused(out, n)
-            }
+// What a bidder has of all products.
+struct Totals {
+    going: u32,
+    denied: u32,
+    retained: u32,
+}
+
+impl Totals {
+    fn with(self, r: Record) -> Totals {
+        Totals {
+            going: std::num::wrapping_add_u32(self.going, r.going.0 as u32),
+            denied: std::num::wrapping_add_u32(self.denied, r.denied.0 as u32),
+            retained: std::num::wrapping_add_u32(self.retained, r.retained.count.0 as u32),
         }
     }
 }
 
-fn put_price(out: &mut [u8; ANSWER], at: usize, p: usize, quote: Quote) -> usize {
+// Past the products in use a record is 0.
+fn totals_of(records: [Record; 8]) -> Totals {
+    let mut totals = Totals {
+        going: 0,
+        denied: 0,
+        retained: 0,
+    };
+    let mut p = 0;
+    while p < 8 {
+        totals = totals.with(records[p]);
+        p += 1;
+    }
+    totals
+}
+
+fn put_totals(out: &mut [u8; ANSWER], at: usize, totals: Totals) -> usize {
+    let kept = totals.denied as u64 + totals.retained as u64;
+    let numbers = [
+        totals.going as u64,
+        totals.denied as u64,
+        totals.retained as u64,
+        totals.going as u64 + kept,
+    ];
+    put_form(
+        out,
+        at,
+        b"  in all going # denied # retained #, held #\n",
+        &numbers,
+    )
+}
+
+// The lines of a report, without the first.
+fn put_report(
+    out: &mut [u8; ANSWER],
+    at: usize,
+    s: &[u8; STATE],
+    b: usize,
+    given: Reported,
+    range: Range,
+    free: Tranches,
+) -> usize {
+    let prices = given.prices;
+    let records = given.records;
+    let a = put_heading(out, at, s, b, range, free);
+    let c = put_holdings(out, a, book::unit(s), prices, records, book::products(s));
+    put_totals(out, c, totals_of(records))
+}
+
+// The report to bidder b: the whole answer, or, among the reports to all, its lines from a place on. Nothing where it is refused.
+pub fn report(out: &mut [u8; ANSWER], s: &[u8; STATE], b: usize, given: Reported) -> usize {
+    let report = given.report;
+    match report {
+        Report::Given { free, phase, range } => {
+            let a = put_standing(out, phase, range, free);
+            put_report(out, a, s, b, given, range, free)
+        }
+        Report::Refused(_) => 0,
+    }
+}
+
+pub fn put_reported(
+    out: &mut [u8; ANSWER],
+    at: usize,
+    s: &[u8; STATE],
+    b: usize,
+    given: Reported,
+) -> usize {
+    let report = given.report;
+    match report {
+        Report::Given {
+            free,
+            phase: _,
+            range,
+        } => put_report(out, at, s, b, given, range, free),
+        Report::Refused(_) => at,
+    }
+}
+
+// ---- The result
+
+fn put_final(out: &mut [u8; ANSWER], at: usize, s: &[u8; STATE], p: usize, quote: Quote) -> usize
+    requires { ⌜ p < 8 ⌝ }
+{
     let price = quote.price;
     let amount = price.amount();
     let numbers = [p as u64, amount as u64];
-    put_form(out, at, b"  product # price #\n", &numbers)
+    let a = put_form(out, at, b"  product % price #\n    ", &numbers);
+    let b = put_price(out, a, book::unit(s), amount);
+    let target = book::target(s, p);
+    let awarded = [story::held_of(s, p) as u64, target.0 as u64];
+    put_form(out, b, b"; # of # awarded\n", &awarded)
 }
 
 // The final price of each product.
-fn put_prices(out: &mut [u8; ANSWER], at: usize, prices: [Quote; 8], products: usize) -> usize {
+fn put_finals(out: &mut [u8; ANSWER], at: usize, s: &[u8; STATE], prices: [Quote; 8]) -> usize {
+    let products = book::products(s);
     let mut to = at;
     let mut p = 0;
     while p < 8 {
-        if products <= p {
-            return to;
+        if p < products {
+            to = put_final(out, to, s, p, prices[p]);
         }
-        to = put_price(out, to, p, prices[p]);
         p += 1;
     }
     to
@@ -110,7 +248,11 @@ fn put_award(out: &mut [u8; ANSWER], at: usize, x: Tranches) -> usize {
     put_form(out, at, b" #", &numbers)
 }
 
-// `  bidder I A0 A1 ..`; bidder b on product p stands at b * 8 + p.
+fn plus(a: u64, b: u64) -> u64 {
+    std::num::wrapping_add_u64(a, b)
+}
+
+// `  bidder I A0 A1 ..`, and what it is in all; bidder b on product p stands at b * 8 + p.
 fn put_bidder(
     out: &mut [u8; ANSWER],
     at: usize,
@@ -121,15 +263,19 @@ fn put_bidder(
     requires { ⌜ b < 32 ⌝ }
 {
     let numbers = [b as u64];
-    let mut to = put_form(out, at, b"  bidder #", &numbers);
+    let mut to = put_form(out, at, b"  bidder &", &numbers);
+    let mut sum = 0u64;
     let mut p = 0;
     while p < 8 {
         if p < products {
-            to = put_award(out, to, all[b * 8 + p]);
+            let x = all[b * 8 + p];
+            to = put_award(out, to, x);
+            sum = plus(sum, x.0 as u64);
         }
         p += 1;
     }
-    put(out, to, b"\n")
+    let total = [sum];
+    put_form(out, to, b"\n    in all #\n", &total)
 }
 
 fn put_awards(
@@ -142,40 +288,51 @@ fn put_awards(
     let mut to = at;
     let mut b = 0;
     while b < 32 {
-        if bidders <= b {
-            return to;
+        if b < bidders {
+            to = put_bidder(out, to, all, b, products);
         }
-        to = put_bidder(out, to, all, b, products);
         b += 1;
     }
     to
 }
 
-// `ok`, the final prices, and the awards.
-pub fn result(out: &mut [u8; ANSWER], given: Awarded, bidders: usize, products: usize) -> usize {
+// `  in all N of M awarded`, over all products.
+fn put_awarded(out: &mut [u8; ANSWER], at: usize, s: &[u8; STATE]) -> usize {
+    let products = book::products(s);
+    let mut awarded = 0u64;
+    let mut targets = 0u64;
+    let mut p = 0;
+    while p < 8 {
+        if p < products {
+            awarded = plus(awarded, story::held_of(s, p) as u64);
+            targets = plus(targets, book::target(s, p).0 as u64);
+        }
+        p += 1;
+    }
+    let numbers = [awarded, targets];
+    put_form(out, at, b"  in all # of # awarded\n", &numbers)
+}
+
+// `ok`, the final prices, and the awards; nothing where it is refused.
+pub fn result(out: &mut [u8; ANSWER], s: &[u8; STATE], given: Awarded) -> usize {
     let award = given.award;
     match award {
         Award::Given => {
             let prices = given.prices;
             let tranches = given.tranches;
-            let a = put(out, 0, b"ok\n");
-            let b = put_prices(out, a, prices, products);
-            put_awards(out, b, tranches, bidders, products)
+            let round = [book::round(s) as u64];
+            let a = put_form(out, 0, b"ok\n  closed in round #; prices in ", &round);
+            let b = put_unit(out, a, book::unit(s));
+            let c = put(out, b, b"; awards in tranches\n");
+            let d = put_finals(out, c, s, prices);
+            let e = put_awards(out, d, tranches, book::bidders(s), book::products(s));
+            put_awarded(out, e, s)
         }
-        Award::Refused(n) => refused(out, n),
+        Award::Refused(_) => 0,
     }
 }
 
-// ` T W X P`
-fn put_line(out: &mut [u8; ANSWER], at: usize, l: Line) -> usize {
-    let numbers = [
-        l.tranches.0 as u64,
-        l.withdrawn.count.0 as u64,
-        l.withdrawn.exit as u64,
-        l.priority as u64,
-    ];
-    put_form(out, at, b" # # # #", &numbers)
-}
+// ---- A card read
 
 // The lines of a bid, and the answer's end.
 fn put_lines(out: &mut [u8; ANSWER], at: usize, lines: [Line; 8], products: usize) -> usize {
@@ -183,14 +340,14 @@ fn put_lines(out: &mut [u8; ANSWER], at: usize, lines: [Line; 8], products: usiz
     let mut p = 0;
     while p < 8 {
         if p < products {
-            to = put_line(out, to, lines[p]);
+            to = put_fields(out, to, lines[p]);
         }
         p += 1;
     }
     put(out, to, b"\n")
 }
 
-// `ok B R`, then ` T W X P` for each product.
+// `ok B R`, then ` T W X P` for each product, and the same in words; nothing where it is refused.
 pub fn bid(out: &mut [u8; ANSWER], got: CardRead, products: usize) -> usize {
     let card = got.card;
     match card {
@@ -198,8 +355,9 @@ pub fn bid(out: &mut [u8; ANSWER], got: CardRead, products: usize) -> usize {
             let lines = got.lines;
             let numbers = [bidder as u64, round as u64];
             let a = put_form(out, 0, b"ok # #", &numbers);
-            put_lines(out, a, lines, products)
+            let b = put_lines(out, a, lines, products);
+            put_read(out, b, bidder, round, lines, products)
         }
-        Card::Refused(n) => refused(out, n),
+        Card::Refused(_) => 0,
     }
 }

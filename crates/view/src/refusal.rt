@@ -3,8 +3,8 @@ use crate::put_form;
 use crate::put_line;
 use text::ANSWER;
 
-// Line N is refusal N's; a number that no call gives has no words.
-pub fn refused(out: &mut [u8; ANSWER], n: u8) -> usize {
+// Line N is refusal N's; a number that no call gives has no words. The line's end is left to what is put after it.
+pub fn put_refused(out: &mut [u8; ANSWER], n: u8) -> usize {
     let a = put_line(
         out,
         b"refused 0\n\
@@ -45,5 +45,5 @@ refused 31 a ratio of 0, or more than 51,200 tranches bid\n",
         return a;
     }
     let numbers = [n as u64];
-    put_form(out, 0, b"refused #\n", &numbers)
+    put_form(out, 0, b"refused #", &numbers)
 }

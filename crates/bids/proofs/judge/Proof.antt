@@ -33,8 +33,8 @@ returns c =
       from12 .refuse2 .ensures,
       from13 .refuse .ensures,
       from13 .before .priorities-fit .ensures,
-      w .less2 .ensures .0,
-      s .less .ensures .0,
+      w .withdrawals .ensures,
+      s .switches .ensures,
     )
     (judged-is (loaded (a .s .now)) (a .b) (a .lines) (t .tally-of .result .sums) (t .tally-of .result .kept) (f .result .0) (t .tally-of .ensures) (f .ensures))
 

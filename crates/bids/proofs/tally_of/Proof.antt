@@ -5,7 +5,7 @@ use native.Mathlib.Omega.{arith}
 use borrow.Author.Needs.{needs}
 use Rattle.rules.specs.Count.{allUpTo}
 use Rattle.rules.specs.Layout.{loaded}
-use Rattle.bids.proofs.More.{kept-more, small-8, sums-more}
+use Rattle.bids.proofs.More.{kept-none, kept-more, small-8, sums-more}
 use Rattle.bids.specs.Tally.{Tallied}
 use Rattle.bids.proofs.tally_of.Statement.{statement}
 use Rattle.bids.proofs.tally_of.Tie as tie
@@ -30,24 +30,30 @@ loop-holds c = (
       withdrawn = omega arith;
       rising = omega arith;
     };
-    kept = record { caps = refl; ticks = refl; leaves = refl; exits = refl; others = refl; plain = refl };
+    kept = kept-none (c .at-first .ensures);
   },
 )
 
 with-requires : tie.Need-with-requires Inv-loop μ-loop
 with-requires c κs = small-8 (c .before .before .before .loop .inv .1 .small) (omega arith)
 
+before-requires : tie.Need-before-requires Inv-loop μ-loop
+before-requires c κs =
+    let r = c .before .before .before .before .before in
+    let h = r .before .before in
+    (search needs, omega (arith, r .before .loop-test .taken, h .before .before .products .ensures .0, h .before .before .before .before .pre .lent .counts .products))
+
 loop-again : tie.Need-loop-again Inv-loop μ-loop
 loop-again c =
     let w = c .before .before .before .before .before in
     let r = w .before .before in
     let h = r .before .before in
-    let d = h .before .before .before in
+    let d = h .before .before .before .before in
     let v = h .loop .inv .1 in
     let e = r .record .ensures in
     let t =
     d .pre .ticks (h .loop .p)
-    (omega (arith, r .before .loop-test .taken, h .before .products .ensures .0, d .pre .lent .counts .products)) in (
+    (omega (arith, r .before .loop-test .taken, h .before .before .products .ensures .0, d .pre .lent .counts .products)) in (
       search needs,
       record {
         sums = sums-more (v .sums) (rw e at (w .with .ensures .0));
@@ -61,11 +67,11 @@ loop-again c =
 returns : tie.Need-returns Inv-loop μ-loop
 returns c =
     let v = c .before .loop .inv in
-    rw (le-antisymm (v .0) (c .loop-test .left) ∙ c .before .before .products .ensures .0) at (v .1)
+    rw (le-antisymm (v .0) (c .loop-test .left) ∙ c .before .before .before .products .ensures .0) at (v .1)
 
 pub tally-of-spec : {M : Type 1} → statement M
 tally-of-spec =
     tie.close
-    (tie.spec Inv-loop μ-loop (λ c κs. search needs) loop-holds (λ c. search needs) (λ c. search needs) (λ c κs. search needs)
-    (λ c. search needs) (λ c. search needs) with-requires (λ c κs. search needs) (λ c. search needs) (λ c κs. search needs)
-    (λ c κs. search needs) (λ c κs. search needs) (λ c. search needs) (λ c. search needs) loop-again returns)
+    (tie.spec Inv-loop μ-loop (λ c κs. search needs) (λ c κs. search needs) loop-holds (λ c. search needs) (λ c. search needs)
+    (λ c κs. search needs) (λ c. search needs) (λ c. search needs) with-requires (λ c κs. search needs) (λ c. search needs)
+    (λ c κs. search needs) before-requires (λ c κs. search needs) (λ c. search needs) (λ c. search needs) loop-again returns)

@@ -9,5 +9,5 @@ pub cutback-spec : {M : Type 1} → statement M
 cutback-spec =
     tie.close
     (tie.spec (λ c κs. search needs) (λ c. search needs) (λ c κs. search needs) (λ c. search needs) (λ c κs. search needs) (λ c. inl refl)
-    (λ c κs. search needs) (λ c κs. search needs) (λ c κs. search needs) (λ c. search needs) (λ c. search needs) (λ c. search cut)
-    (λ c. inl refl) (λ c. inl refl))
+    (λ c κs. search needs) (λ c κs. search needs) (λ c κs. search needs) (λ c κs. search needs) (λ c. search needs) (λ c. search needs)
+    (λ c. search cut) (λ c. inl refl) (λ c. inl refl))

@@ -8,4 +8,4 @@ pub file-spec : {M : Type 1} → statement M
 file-spec =
     tie.close
     (tie.spec (λ c κs. search needs) (λ c. search needs) (λ c κs. search needs) (λ c. inl refl) (λ c κs. search needs) (λ c. search needs)
-    (λ c κs. search needs) (λ c κs. search needs) (λ c. search needs) (λ c. search needs) (λ c. inl refl))
+    (λ c κs. search needs) (λ c. search needs) (λ c. search needs) (λ c. inl refl))

@@ -8,5 +8,6 @@ use Rattle.commands.proofs.line.command.Tie as tie
 pub command-spec : {M : Type 1} → statement M
 command-spec =
     tie.close
-    (tie.spec (λ c κs. search needs) (λ c κs. search needs) (λ c. search needs) (λ c κs. search needs) (λ c. search needs)
-    (λ c κs. search needs) (λ c. search needs) (λ c κs. search needs) (λ c. search settled) (λ c. inl (inl refl)) (λ c. search needs))
+    (tie.spec (λ c κs. search needs) (λ c κs. search needs) (λ c. search needs) (λ c κs. search needs) (λ c κs. search needs)
+    (λ c. search needs) (λ c κs. search needs) (λ c. search needs) (λ c κs. search needs) (λ c. search settled) (λ c. inl (inl refl))
+    (λ c. search needs))

@@ -8,10 +8,11 @@ use Rattle.commands.proofs.shell.answer_lines.Statement.{statement}
 use Rattle.commands.proofs.shell.answer_lines.Tie as tie
 
 abbrev Inv-loop : tie.InvT-loop
-Inv-loop buf₀ full skipping held₀ manner kind path state₀ out₀ start₀ skip₀ gone₀ buf held state out start skip gone = ((start ≤ full) × (length buf ≡ length buf₀)) × Served state₀ state
+Inv-loop buf₀ full skipping held₀ manner kind path names₀ state₀ out₀ start₀ skip₀ gone₀ buf held names state out start skip gone =
+    ((start ≤ full) × (length buf ≡ length buf₀)) × Served state₀ state
 
 abbrev μ-loop : tie.MeasureT-loop
-μ-loop buf₀ full skipping held₀ manner kind path state₀ out₀ start₀ skip₀ gone₀ buf held state out start skip gone = full - start
+μ-loop buf₀ full skipping held₀ manner kind path names₀ state₀ out₀ start₀ skip₀ gone₀ buf held names state out start skip gone = full - start
 
 pub answer-lines-spec : {M : Type 1} → statement M
 answer-lines-spec =

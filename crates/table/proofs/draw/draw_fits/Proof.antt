@@ -2,7 +2,6 @@ use mathlib.Core.Path.{_≡_}
 use Prim.Native.Nat.{_≤_, _-_}
 use native.Mathlib.Nat.{le-antisymm}
 use native.Mathlib.Numerals.{add-one}
-use native.Mathlib.Omega.{arith}
 use borrow.Author.Tests.{eq-eqb, ne-eqb}
 use borrow.Author.Needs.{needs}
 use lib.Dec.{ltb, eqb}
@@ -26,9 +25,6 @@ loop-holds : tie.Need-loop-holds Inv-loop μ-loop
 unfolding allUpTo
 loop-holds c = search needs
 
-cast-fit : tie.Need-cast-fit Inv-loop μ-loop
-cast-fit c = omega (arith, c .shared-slice-known2 .given (c .before .before .loop .b))
-
 loop-again : tie.Need-loop-again Inv-loop μ-loop
 unfolding allUpTo
 loop-again c = rw add-one (search needs, (cc, cc))
@@ -41,5 +37,5 @@ returns-2 c =
 pub draw-fits-spec : {M : Type 1} → statement M
 draw-fits-spec =
     tie.close
-    (tie.spec Inv-loop μ-loop returns loop-holds (λ c. search needs) cast-fit (λ c κs. search needs) (λ c. search needs)
+    (tie.spec Inv-loop μ-loop returns loop-holds (λ c. search needs) (λ c κs. search needs) (λ c κs. search needs) (λ c. search needs)
     (λ c. search needs) loop-again returns-2)

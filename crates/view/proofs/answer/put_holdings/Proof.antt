@@ -4,13 +4,13 @@ use Rattle.view.proofs.answer.put_holdings.Statement.{statement}
 use Rattle.view.proofs.answer.put_holdings.Tie as tie
 
 abbrev Inv-loop : tie.InvT-loop
-Inv-loop out₀ at products prices records to₀ p₀ out to p = p ≤ 8
+Inv-loop out₀ at unit products prices records to₀ p₀ out to p = p ≤ 8
 
 abbrev μ-loop : tie.MeasureT-loop
-μ-loop out₀ at products prices records to₀ p₀ out to p = 8 - p
+μ-loop out₀ at unit products prices records to₀ p₀ out to p = 8 - p
 
 pub put-holdings-spec : {M : Type 1} → statement M
 put-holdings-spec =
     tie.close
     (tie.spec Inv-loop μ-loop (λ c. search needs) (λ c. search needs) (λ c. search needs) (λ c. search needs) (λ c. search needs)
-    (λ c. search needs) (λ c κs. search needs) (λ c. search needs) (λ c. search needs) (λ c. search needs) (λ c. search needs))
+    (λ c κs. search needs) (λ c. search needs) (λ c. search needs) (λ c. search needs) (λ c. search needs))

@@ -4,14 +4,13 @@ use Rattle.view.proofs.state.put_products.Statement.{statement}
 use Rattle.view.proofs.state.put_products.Tie as tie
 
 abbrev Inv-loop : tie.InvT-loop
-Inv-loop out₀ at s n to₀ p₀ out to p = p ≤ n
+Inv-loop out₀ at s n to₀ p₀ out to p = p ≤ 8
 
 abbrev μ-loop : tie.MeasureT-loop
-μ-loop out₀ at s n to₀ p₀ out to p = n - p
+μ-loop out₀ at s n to₀ p₀ out to p = 8 - p
 
 pub put-products-spec : {M : Type 1} → statement M
 put-products-spec =
     tie.close
-    (tie.spec Inv-loop μ-loop (λ c κs. search needs) (λ c. search needs) (λ c κs. search needs) (λ c. search needs)
-    (λ c κs. search needs) (λ c. search needs) (λ c. search needs) (λ c κs. search needs) (λ c. search needs) (λ c. search needs)
+    (tie.spec Inv-loop μ-loop (λ c κs. search needs) (λ c. search needs) (λ c κs. search needs) (λ c. search needs) (λ c. search needs)
     (λ c. search needs) (λ c. search needs))

@@ -1,0 +1,147 @@
+// Help on what is done when the cards are in.
+use crate::refusals;
+use text::ANSWER;
+use text::put;
+
+pub fn put_calculate(out: &mut [u8; ANSWER]) -> usize {
+    let a = put(
+        out,
+        0,
+        b"ok
+  calculate D0 D1 ..
+      calculates the round
+  words
+    D0 D1 ..  all bidders, each once, in the order of the draw, earliest first; also those who have
+              not filed. Draw by lot, best before the bids are seen; the box draws nothing
+    The answer is ok kept K outbid O: K tranches are kept to fill a target, withdrawals that are
+    retained and switches that are denied; O that were kept before are outbid by new tranches.
+  default bids
+    Who has not filed bids nothing on each product whose price has just fallen, all withdrawn at
+    the price before that fall, and as before on the others. At a terminal the desk names them and
+    asks first; a script is not asked.
+",
+    );
+    let b = put(
+        out,
+        a,
+        b"  changes
+    The box: the next round is open at its prices, or the auction is closed (total excess supply is
+    0), or stopped (a product above target at price 1, or round 4095). The state before is kept as
+    BOX.before: undo puts it back, once.
+  refused
+",
+    );
+    let c = refusals::put_not_open(out, b);
+    let d = refusals::put_draw(out, c);
+    put(
+        out,
+        d,
+        b"  example, at the end of round 1 of examples/new-jersey
+    > calculate 2 3 1 0 5 4
+    ok kept 0 outbid 0
+",
+    )
+}
+
+pub fn put_undo(out: &mut [u8; ANSWER]) -> usize {
+    let a = put(
+        out,
+        0,
+        b"ok
+  undo
+      puts back the state before the last calculation or return, once
+  changes
+    The box: what was filed or cut back since goes too. It stands in the journal. Without a box file
+    nothing is kept to put back; an opening ends what could be undone, and so does an undo. Names
+    that went with a return stay away.
+    Where reports went out already, tell the bidders.
+  refused
+",
+    );
+    let b = refusals::put_no_box(out, a);
+    put(
+        out,
+        b,
+        b"    error nothing to undo ..: nothing was calculated or returned since; nothing is changed
+  example, at the end of round 1 of examples/new-jersey
+    > calculate 2 3 1 0 5 4
+    ok kept 0 outbid 0
+    > undo
+    ok
+",
+    )
+}
+
+pub fn put_show(out: &mut [u8; ANSWER]) -> usize {
+    let a = put(
+        out,
+        0,
+        b"ok
+  show
+      the manager's view of the whole state; nothing of it is for a bidder
+  what it says
+    first line   issued, or open, closed or stopped, with round, unit and statewide cap
+    product      target, cap, start (starting price), price (going), before (the price before its
+                 latest fall) and held (all tranches bid, denied and retained)
+    row          percentage of the target, decrement in basis points
+    bidder       eligibility (initial), free, filed (1 where its card is filed); of each product
+                 four numbers: going, denied, retained, and the exit price of the retained
+    card         the card that is filed: of each product tranches, withdrawn, exit price, priority
+  changes
+    nothing
+  refused
+",
+    );
+    let b = refusals::put_no_state(out, a);
+    put(
+        out,
+        b,
+        b"  example, in round 2 of examples/new-jersey
+    > show
+    ok open round 2 unit kwh statewide 21
+      product 0 target 29 cap 14 start 14500 price 13884 before 14500 held 44
+",
+    )
+}
+
+pub fn put_report(out: &mut [u8; ANSWER]) -> usize {
+    let a = put(
+        out,
+        0,
+        b"ok
+  report B
+      what bidder B is told after a round
+  report all
+      the reports to all bidders, one after the other; hand to each its own alone
+  words
+    B   the bidder, from 0
+    The first line has the phase, the range that total excess supply is in (the exact number is not
+    told) and the bidder's free eligibility, which it may bid in the next round or loses. Then of
+    each product the going price in the unit, and the bidder's tranches: going (at the going price),
+    denied (switches), retained (withdrawals) with their exit price.
+  changes
+    nothing
+  refused
+",
+    );
+    let b = refusals::put_no_state(out, a);
+    let c = put(
+        out,
+        b,
+        b"     3  the box is issued: there is no auction
+",
+    );
+    let d = refusals::put_no_bidder(out, c);
+    let e = refusals::put_too_soon(out, d);
+    put(
+        out,
+        e,
+        b"  example, in round 2 of examples/new-jersey
+    > report 0
+    ok open excess 31-40 free 0
+      product 0 price 13884 going 10 denied 0 retained 0 exit 0
+    > report all
+    ok 6
+",
+    )
+}
