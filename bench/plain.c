@@ -1,5 +1,5 @@
-/* Plain C of the calls count and calculate on the same bytes (docs/LAYOUT.md): load them, judge that the state stands, calculate,
-   store them. For counting executed instructions against the proved code.
+/* Plain C of the calls count and calculate, this one without overrides, on the same bytes (docs/LAYOUT.md): load them, judge that the
+   state stands, calculate, store them. For counting executed instructions against the proved code.
    ./plain LETTER N <STATE: k calculates the state N times, c counts it N times, a calculates it and writes its bytes. */
 #include <stdint.h>
 #include <stdio.h>
@@ -10,7 +10,7 @@
 enum { PRODUCTS = 8, BIDDERS = 32, ROWS = 8, PLACES = 256, LAST = 4095 };
 enum { OPEN = 1, CLOSED = 2, STOPPED = 3 };
 
-struct product { uint8_t target, cap; uint32_t start, price, before; };
+struct product { uint8_t target, cap, mark; uint32_t start, price, before; };
 struct seat { uint16_t initial, free; };
 struct row { uint16_t percent, decrement; };
 struct record { uint8_t going, denied, retained; uint32_t exit; };
@@ -40,8 +40,8 @@ static void load(struct auction *a, const uint8_t *s) {
     a->phase = s[0], a->unit = s[1], a->products = s[2], a->bidders = s[3], a->rows = s[4];
     a->round = get2(s + 5), a->statewide = get2(s + 7), a->filed = get4(s + 9);
     s += 13;
-    for (int p = 0; p < PRODUCTS; p++, s += 11)
-        a->product[p] = (struct product){s[0], s[1], get3(s + 2), get3(s + 5), get3(s + 8)};
+    for (int p = 0; p < PRODUCTS; p++, s += 12)
+        a->product[p] = (struct product){s[0], s[1], s[11], get3(s + 2), get3(s + 5), get3(s + 8)};
     for (int b = 0; b < BIDDERS; b++, s += 4) a->seat[b] = (struct seat){get2(s), get2(s + 2)};
     for (int i = 0; i < ROWS; i++, s += 4) a->row[i] = (struct row){get2(s), get2(s + 2)};
     for (int k = 0; k < PLACES; k++, s += 6) a->record[k] = (struct record){s[0], s[1], s[2], get3(s + 3)};
@@ -52,8 +52,8 @@ static void store(const struct auction *a, uint8_t *s) {
     s[0] = a->phase, s[1] = a->unit, s[2] = a->products, s[3] = a->bidders, s[4] = a->rows;
     put2(s + 5, a->round), put2(s + 7, a->statewide), put4(s + 9, a->filed);
     s += 13;
-    for (const struct product *t = a->product; t < a->product + PRODUCTS; t++, s += 11)
-        s[0] = t->target, s[1] = t->cap, put3(s + 2, t->start), put3(s + 5, t->price), put3(s + 8, t->before);
+    for (const struct product *t = a->product; t < a->product + PRODUCTS; t++, s += 12)
+        s[0] = t->target, s[1] = t->cap, put3(s + 2, t->start), put3(s + 5, t->price), put3(s + 8, t->before), s[11] = t->mark;
     for (const struct seat *t = a->seat; t < a->seat + BIDDERS; t++, s += 4) put2(s, t->initial), put2(s + 2, t->free);
     for (const struct row *t = a->row; t < a->row + ROWS; t++, s += 4) put2(s, t->percent), put2(s + 2, t->decrement);
     for (const struct record *r = a->record; r < a->record + PLACES; r++, s += 6)
@@ -77,7 +77,7 @@ static int limits(const struct auction *a) {
     for (int p = 0; p < PRODUCTS; p++) {
         const struct product *t = &a->product[p];
         if (p >= a->products) {
-            if (t->target || t->cap || t->start || t->price || t->before) return 0;
+            if (t->target || t->cap || t->start || t->price || t->before || t->mark) return 0;
             continue;
         }
         if (t->target < 1 || t->target > 200 || (p > 0 && t->target > t[-1].target)) return 0;
@@ -195,6 +195,15 @@ static int as_opened(const struct auction *a, const struct sums *s) {
     return 1;
 }
 
+/* "its mark only on products above target in an open round from 2" */
+static int marks_stand(const struct auction *a, const struct sums *s) {
+    for (int p = 0; p < a->products; p++) {
+        int mark = a->product[p].mark;
+        if (mark && (mark > 1 || a->phase != OPEN || a->round < 2 || !is_above(a, s, p))) return 0;
+    }
+    return 1;
+}
+
 static int phase_stands(const struct auction *a, const struct sums *s) {
     if (a->phase == OPEN) {
         if (a->round == 1) return as_opened(a, s);
@@ -214,7 +223,7 @@ static int state_number(struct auction *a, struct sums *s, const uint8_t *state,
         return 3;
     }
     load(a, state);
-    if (!limits(a) || !records_stand(a, s) || !cards_stand(a, s) || !phase_stands(a, s)) return 2;
+    if (!limits(a) || !records_stand(a, s) || !cards_stand(a, s) || !phase_stands(a, s) || !marks_stand(a, s)) return 2;
     return a->phase == OPEN ? 0 : 3;
 }
 
@@ -332,6 +341,7 @@ static uint32_t next_price(const struct auction *a, const struct product *t, int
 static void settle(struct auction *a, const struct sums *s) {
     a->filed = 0;
     memset(a->line, 0, sizeof a->line);
+    for (int p = 0; p < a->products; p++) a->product[p].mark = 0;
     if (excess(a, s) == 0) {
         a->phase = CLOSED;
     } else if (must_stop(a, s)) {

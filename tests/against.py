@@ -244,6 +244,25 @@ def wrong_draw(rnd, m):
     return ' '.join(['calculate'] + list(map(str, draw)))
 
 
+def overriding(rnd, a):
+    """What follows a draw: in a third of cases up to three overrides, mostly within the limits and of products in use."""
+    if rnd.random() < .65:
+        return ''
+    words = ['', 'override']
+    for j in rnd.sample(range(a.products), min(a.products, rnd.choice([0, 1, 1, 1, 2, 2, 3]))):
+        if rnd.random() < .06:
+            j = rnd.choice([0, a.products, 7, 7, 8, 255, 256, 4294967295, 4294967296])
+        points = rnd.choice([1, 2, 50, 300, 999, 1000, 1000] + [rnd.randint(1, 1000)] * 7)
+        if rnd.random() < .1:
+            points = rnd.choice([0, 0, 1001, 1001, 65535, 65536, 65537, 66536, 4294967295, 4294967297, 10 ** 30])
+        words += [j, points]
+    if rnd.random() < .05:
+        words += words[2:4]
+    if rnd.random() < .03:
+        words.pop()
+    return ' '.join(map(str, words))
+
+
 GIVEN = ['Alpha', 'Beta', 'Beta', 'a', 'A  B', 'PSE&G', 'Z\u00fcrich', '- -', '0', 'bidder 0', 'x' * 24, '\u00e9' * 12, '-', '-', '{0}',
          '#', 'all']
 
@@ -483,12 +502,13 @@ def session(rnd, desk, lines, answers, states):
         rnd.shuffle(draw)
         line = 'calculate ' + ' '.join(map(str, draw))
         if rnd.random() < .05:
-            say(spoiled_text(rnd, line))
+            say(spoiled_text(rnd, line + overriding(rnd, a)))
         if rnd.random() < .15:
-            say(wrong_draw(rnd, a.bidders))
+            say(wrong_draw(rnd, a.bidders) + overriding(rnd, a))
         if rnd.random() < .3:
             say(new_line(rnd, a))
-        say(line)
+        if not say(line + overriding(rnd, a))[0].startswith('ok'):
+            say(line)
         for i in rnd.sample(range(a.bidders), min(a.bidders, 3)):
             say('report %d' % i)
         say('show')
@@ -517,10 +537,11 @@ REMARKS = [(number, re.compile(pattern)) for number, pattern in [
     (15, 'statewide cap'), (15, 'eligibility'), (15, 'row 0, percentage'), (15, 'row [1-7], percentage'), (15, 'decrement'),
     (15, 'nothing is allowed'), (15, '; [0-9]+ is allowed'), (16, 'the box is issued'), (16, 'the auction is open'),
     (16, 'the auction is stopped'), (17, 'an auction is open'), (17, 'an auction is closed'), (17, 'an auction is stopped'), (17, 'byte'),
-    (18, 'round 1'), (20, 'belongs to round 2'), (20, 'has filed'), (20, 'target'), (20, ', cap'), (20, 'tranches in all'),
+    (18, 'round 1'), (19, ', 0 basis points'), (19, ', 1001 basis points'), (19, ', 65535 basis points'), (20, 'belongs to round 2'),
+    (20, 'has filed'), (20, 'target'), (20, ', cap'), (20, 'tranches in all'),
     (29, 'products'), (30, ': bidder'), (30, ': round'), (30, 'tranches'), (30, 'withdrawn .* 0 to'), (30, 'exit'), (30, 'priority'),
-    (30, '; 0 is allowed'), (31, 'the ratio is 0'), (31, 'bid; 0 to 51200'), (8, r'\(.*\)'), (14, r'\(.*\)'), (20, r'\(.*\)'),
-    (30, r'product [0-9]+ \('),
+    (30, '; 0 is allowed'), (31, 'the ratio is 0'), (31, 'bid; 0 to 51200'), (8, r'\(.*\)'), (14, r'\(.*\)'), (19, r'\(.*\)'),
+    (20, r'\(.*\)'), (30, r'product [0-9]+ \('),
 ]]
 
 SAID = [re.compile(pattern) for pattern in [
@@ -532,7 +553,9 @@ SAID = [re.compile(pattern) for pattern in [
     'every bidder has filed', '^    card', '; retained at', r'default bids: .*\(', r'still to file: .*\(',
     r'^  bidder [0-9]+ \(.*\) on product [0-9]+ \(.*\): ', '^ok not filed', '^ok [0-9]+ of [0-9]+', 'error name is for',
     'error a name is missing', 'error a name has at most', 'error a name has no brackets', 'has this name', 'error bidders are',
-    'error products are', 'error names belong',
+    'error products are [0-9]', 'error names belong', 'next .* overridden$', 'held [0-9]+ overridden$', 'exit [0-9]+ overridden$',
+    r'\) .* overridden$', 'does nothing: it is not above target', 'does nothing: there is no such product', 'does nothing: no price falls',
+    'error an override is', 'error products are numbered', 'error a product has one override',
 ]]
 
 
@@ -571,11 +594,12 @@ def differ(lines, answers, got):
     at = 0
     said = got.decode(errors='surrogateescape').split('\n')
     for line, want in zip(lines, answers):
-        if said[at:at + len(want)] != want:
-            return line, want, said[at:at + len(want) + 1]
-        at += len(want)
-        if want == ['ok'] and re.match(r'\s*(help|\?)', line):
-            while said[at:at + 1] and said[at].startswith('  '):
+        first, helps = at, re.match(r'\s*(help|\?)', line)
+        for wanted in want:
+            if said[at:at + 1] != [wanted]:
+                return line, want, said[first:first + len(want) + 1]
+            at += 1
+            while helps and wanted == 'ok' and said[at:at + 1] and said[at].startswith('  '):
                 at += 1
     return None if said[at:] == [''] else ('after the last line', [], said[at:])
 
@@ -621,7 +645,7 @@ def largest(met):
         lines.append('open %s 1600 product' % unit + ' 200 200 99999' * 8 + ' bidder' + ' 1600' * 32 + ' row' + rows)
         lines += ['name bidder %d %s%02d' % (i, 'B' * 22, i) for i in range(32)]
         lines += ['name product %d %s%d' % (j, 'P' * 23, j) for j in range(8)]
-        draw = 'calculate ' + ' '.join(map(str, range(32)))
+        draw = 'calculate ' + ' '.join(map(str, range(32))) + ' override' + ''.join(' %d 1000' % j for j in range(8))
         for b in (first, first - 1):
             lines += ['missing'] + ['bid %d' % i + ' %d 0 0 0' % b * 8 for i in range(32)]
             lines += ['filed', 'filed 31', 'names', 'show', 'calculate 1 1 255', draw, 'report 31', 'report all', 'show', 'missing']
@@ -639,8 +663,9 @@ def largest(met):
 
 
 LOOK = ['count', 'report 0', 'report 1', 'result', 'show', 'calculate 0', 'calculate 0 1', 'calculate 1 0 2', 'return', 'file 00',
-        'cutback 1 1', 'undo', 'undo', 'missing', 'filed', 'filed 0', 'report all', 'names', 'name bidder 0 A', 'name product 0 B',
-        'open kwh 1 product 1 1 1 bidder 1 row 0 100', 'open kwh 1 product 1 1 1 bidder 1 row 0 100']
+        'calculate 0 1 override 0 1000', 'calculate 1 0 override 0 0', 'cutback 1 1', 'undo', 'undo', 'missing', 'filed', 'filed 0',
+        'report all', 'names', 'name bidder 0 A', 'name product 0 B', 'open kwh 1 product 1 1 1 bidder 1 row 0 100',
+        'open kwh 1 product 1 1 1 bidder 1 row 0 100']
 NAMED = [b'bidder 0 Alpha\nproduct 0 ACE\n', b'bidder 0 A  B\nbidder 1 Z\xc3\xbcrich\n', b'bidder 1 x\n']
 
 
@@ -649,7 +674,8 @@ def spoiled_state(rnd, state):
     at = model.PLACE
     for _ in range(rnd.choice([0, 0, 1, 1, 1, 2])):
         k = rnd.choice([rnd.randrange(at['TARGET']), rnd.randrange(at['TARGET'], at['INITIAL']), rnd.randrange(at['INITIAL'], at['PERCENT']),
-                        rnd.randrange(at['PERCENT'], at['RECORDS']), at['RECORDS'] + rnd.randrange(20),
+                        rnd.randrange(at['PERCENT'], at['RECORDS']), at['MARK'] + at['LANE'] * rnd.randrange(3),
+                        at['RECORDS'] + rnd.randrange(20),
                         at['RECORDS'] + 8 * at['RECORD'] * rnd.randrange(6) + rnd.randrange(3 * at['RECORD']),
                         at['BIDS'] + 8 * at['LINE'] * rnd.randrange(6) + rnd.randrange(3 * at['LINE']), rnd.randrange(at['STATE'])])
         state[k] = rnd.choice([0, 1, 2, state[k] ^ 1, (state[k] + 1) % 256, (state[k] - 1) % 256, rnd.randrange(256), 255])
@@ -692,6 +718,8 @@ def boxes(many, seed, states, met):
                 draw = list(range(model.load(state).bidders))
                 rnd.shuffle(draw)
                 lines[2] = 'calculate ' + ' '.join(map(str, draw))
+                if 1 <= model.load(state).products <= 8:
+                    lines[2] += overriding(rnd, model.load(state))
                 lines += ['show', 'report 0']
             if len(state) == model.LENGTH and 1 <= model.load(state).products <= 8 and rnd.random() < .6:
                 lines[1:1] = [cutback(rnd, model.load(state)), 'show']

@@ -1,5 +1,5 @@
 #!/usr/bin/env python3
-"""Document 01, with request 3 of document 02, and the desk's text, written a second time.
+"""Document 01, with requests 1 and 3 of document 02, and the desk's text, written a second time.
 
     tests/model.py [BOX] < commands > answers
 
@@ -41,6 +41,7 @@ WORDS = {
     16: "auction not closed",
     17: "a state byte isn't zero",
     18: "open in round 1",
+    19: "an override outside 1 to 1,000",
     20: "a condition on the cutback not met",
     29: "product count not 1 to 8",
     30: "a field too large for its bits, or not 0 past the count",
@@ -100,6 +101,7 @@ class Auction:
         self.phase = self.unit = self.products = self.bidders = self.rows = self.round = self.statewide = self.filed = 0
         self.target, self.cap, self.start = [0] * PRODUCTS, [0] * PRODUCTS, [0] * PRODUCTS
         self.p, self.q = [0] * PRODUCTS, [0] * PRODUCTS
+        self.mark = [0] * PRODUCTS  # 1 where p was overridden
         self.initial, self.free = [0] * BIDDERS, [0] * BIDDERS
         self.percent, self.decrement = [0] * ROWS, [0] * ROWS
         self.record = [[Record() for _ in range(PRODUCTS)] for _ in range(BIDDERS)]
@@ -170,7 +172,7 @@ def load(state):
     a.phase, a.unit, a.products, a.bidders, a.rows = take(1), take(1), take(1), take(1), take(1)
     a.round, a.statewide, a.filed = take(2), take(2), take(4)
     for j in range(PRODUCTS):
-        a.target[j], a.cap[j], a.start[j], a.p[j], a.q[j] = take(1), take(1), take(3), take(3), take(3)
+        a.target[j], a.cap[j], a.start[j], a.p[j], a.q[j], a.mark[j] = take(1), take(1), take(3), take(3), take(3), take(1)
     for i in range(BIDDERS):
         a.initial[i], a.free[i] = take(2), take(2)
     for k in range(ROWS):
@@ -196,6 +198,7 @@ def store(a):
     for j in range(PRODUCTS):
         put(1, a.target[j], a.cap[j])
         put(3, a.start[j], a.p[j], a.q[j])
+        put(1, a.mark[j])
     for i in range(BIDDERS):
         put(2, a.initial[i], a.free[i])
     for k in range(ROWS):
@@ -259,7 +262,7 @@ def spare_is_zero(a):
                 return False
             if (i >= m or j >= n or not a.has_filed(i)) and any(a.slot[i][j].fields()):
                 return False
-    return a.filed >> m == 0 and not any(a.p[n:] + a.q[n:] + a.free[m:])
+    return a.filed >> m == 0 and not any(a.p[n:] + a.q[n:] + a.mark[n:] + a.free[m:])
 
 
 def product_stands(a, j):
@@ -270,6 +273,9 @@ def product_stands(a, j):
     if (over or a.kept(j) > 0) and not q > p:
         return False
     if a.kept(j) > 0 and a.standing(j) != 0:
+        return False
+    # "its mark only on products above target in an open round from 2"
+    if a.mark[j] not in ((0, 1) if over and a.round >= 2 else (0,)):
         return False
     for i in range(a.bidders):
         c = a.record[i][j]
@@ -469,8 +475,8 @@ class Steps:
                 yield i, j, kind, many
 
 
-def calculate(a, draw):
-    """Changes the auction; answers what its steps did."""
+def calculate(a, draw, overrides={}):
+    """Changes the auction; answers what its steps did. An override is a decrement in basis points, by the number of its product."""
     n, m = a.products, a.bidders
     products = range(n)
     steps = Steps()
@@ -537,6 +543,7 @@ def calculate(a, draw):
                 steps.did('retained outbid', i, j)
 
     # 5. Closed, stopped, or the next round.
+    a.mark = [0] * PRODUCTS
     if a.excess() == 0:
         a.phase = CLOSED
     elif a.must_stop():
@@ -544,18 +551,33 @@ def calculate(a, draw):
     else:
         for j in products:
             if a.standing(j) > 0:
-                a.p[j], a.q[j] = next_price(a, j), a.p[j]
+                a.p[j], a.q[j] = next_price(a, j, overrides.get(j)), a.p[j]
+                a.mark[j] = int(j in overrides)
         a.round += 1
     a.filed = 0
     a.slot = [[Line() for _ in range(PRODUCTS)] for _ in range(BIDDERS)]
     return steps
 
 
-def next_price(a, j):
+def next_price(a, j, override=None):
     percentage = 100 * a.standing(j) // a.target[j]
     decrement = [a.decrement[k] for k in range(a.rows) if a.percent[k] <= percentage][-1]
+    if override is not None:
+        decrement = override
     cut = (a.p[j] * decrement + 5000) // 10000
     return a.p[j] - max(1, cut)
+
+
+OVERRIDE = 1, 1000
+
+
+def override_fault(overrides):
+    """The first that is outside its limits, whether it would do anything or not; None where there is none."""
+    least, most = OVERRIDE
+    for j in sorted(overrides):
+        if not least <= overrides[j] <= most:
+            return '{product %d}, %d basis points; %s' % (j, overrides[j], allowed(least, most))
+    return None
 
 
 # ---- Volume cutback after round 1
@@ -596,6 +618,7 @@ def cut_back(a, target, cap):
                 freed.append((i, j, over))
     # "Round 2 prices are worked out afresh from the starting prices and the reduced book"; "Step 5's stop applies again."
     a.p, a.q = list(a.start), list(a.start)
+    a.mark = [0] * PRODUCTS  # "overrides and their marks dropped"
     if a.must_stop():
         a.phase = STOPPED
     else:
@@ -710,12 +733,44 @@ class Reader:
             raise Wrong('a number above 4294967295', self.at())
         return int(self.word())
 
+    def any_number(self):
+        """Of any number of digits."""
+        if not self.is_number():
+            raise Wrong('not a number', self.at())
+        return int(self.word())
+
     def numbers_to_end(self, most):
+        return self.numbers_before(None, most)
+
+    def numbers_before(self, end, most):
+        """Numbers up to the word `end` or the end of the line."""
         out = []
-        while not self.at_end():
+        while not self.at_end() and not self.is_word(end):
             if len(out) == most:
                 self.done()
             out.append(self.number())
+        return out
+
+    def overrides(self):
+        """After a draw: the word `override` and pairs of a product and basis points, if they are there; the points by product."""
+        out = {}
+        if self.at_end():
+            return out
+        missing = 'an override is a product and its basis points; a number is missing'
+        at = self.at()
+        self.word()
+        if self.at_end():
+            raise Wrong(missing, at)
+        while not self.at_end():
+            at = self.at()
+            j = self.any_number()
+            if j >= PRODUCTS:
+                raise Wrong('products are numbered 0 to %d' % (PRODUCTS - 1), at)
+            if j in out:
+                raise Wrong('a product has one override', at)
+            if self.at_end():
+                raise Wrong(missing, at)
+            out[j] = pair(self.any_number())
         return out
 
     def groups_to_end(self, size, what):
@@ -847,7 +902,27 @@ def products_in_words(a, then):
         held, target = a.held(j), a.target[j]
         over = 'excess %d' % (held - target) if held >= target else 'short %d' % (target - held)
         price = 'price %d, next %s' % (then[j], a.price(a.p[j])) if a.phase == OPEN else 'price ' + a.price(then[j])
-        out.append('  {product %d}: held %d, target %d, %s, %s' % (j, held, target, over, price))
+        out.append('  {product %d}: held %d, target %d, %s, %s%s' % (j, held, target, over, price, overridden(a, j)))
+    return out
+
+
+def overridden(a, j):
+    return ' overridden' if a.mark[j] else ''
+
+
+def unused_in_words(a, overrides):
+    """After a calculation: the overrides that did nothing."""
+    out = []
+    for j in sorted(overrides):
+        if j >= a.products:
+            why = 'there is no such product'
+        elif a.phase != OPEN:
+            why = 'no price falls'
+        elif a.standing(j) <= 0:
+            why = 'it is not above target'
+        else:
+            continue
+        out.append('  the override of {product %d} does nothing: %s' % (j, why))
     return out
 
 
@@ -869,7 +944,7 @@ def report_in_words(a, i):
            '  prices in ' + a.units()]
     own = a.record[i][:a.products]
     for j, c in enumerate(own):
-        out.append('  {product %d} price %d going %d denied %d retained %d exit %d' % ((j, a.p[j]) + c.fields()))
+        out.append('  {product %d} price %d going %d denied %d retained %d exit %d%s' % ((j, a.p[j]) + c.fields() + (overridden(a, j),)))
         out.append('    ' + a.people(a.p[j]) + ('; retained at ' + a.people(c.x) if c.r > 0 else ''))
     g, d, r = sum(c.g for c in own), sum(c.d for c in own), sum(c.r for c in own)
     return out + ['  in all going %d denied %d retained %d, held %d' % (g, d, r, g + d + r)]
@@ -1094,17 +1169,18 @@ class Desk:
         return ['ok %d %d%s' % (i, a.round, card_fields(a.slot[i][:a.products]))] + bid_in_words(a, i, a.slot[i])
 
     def calculate(self, r):
-        draw = [byte(i) for i in r.numbers_to_end(40)]
+        draw = [byte(i) for i in r.numbers_before(b'override', 40)]
+        overrides = r.overrides()
         a = with_bids_open(self.state)
-        fault = draw_fault(a, draw)
-        if fault:
-            raise Refused(14, fault)
+        for number, fault in (14, draw_fault(a, draw)), (19, override_fault(overrides)):
+            if fault:
+                raise Refused(number, fault)
         then, missing, round = list(a.p), a.still_to_file(), a.round
-        steps = calculate(a, draw)
+        steps = calculate(a, draw, overrides)
         self.keep(store(a), self.state)
         kept, outbid = steps.count('retained', 'denied'), steps.count('denied outbid', 'retained outbid')
         out = ['ok kept %d outbid %d' % (kept, outbid), '  round %d calculated; default bids: %s' % (round, listed(missing) or 'none')]
-        out += products_in_words(a, then)
+        out += products_in_words(a, then) + unused_in_words(a, overrides)
         for i, j, kind, many in steps.in_order():
             said = {
                 'retained': lambda: 'retained at ' + a.price(a.record[i][j].x),
@@ -1179,8 +1255,8 @@ class Desk:
             return ['ok issued']
         out = ['ok %s round %d unit %s statewide %d' % (PHASE[a.phase], a.round, UNIT[a.unit], a.statewide)]
         for j in range(a.products):
-            out.append('  {product %d} target %d cap %d start %d price %d before %d held %d'
-                       % (j, a.target[j], a.cap[j], a.start[j], a.p[j], a.q[j], a.held(j)))
+            out.append('  {product %d} target %d cap %d start %d price %d before %d held %d%s'
+                       % (j, a.target[j], a.cap[j], a.start[j], a.p[j], a.q[j], a.held(j), overridden(a, j)))
         for k in range(a.rows):
             out.append('  row %d percent %d decrement %d' % (k, a.percent[k], a.decrement[k]))
         out.append('  records G D R X: going, denied, retained at exit X; cards T W X P: tranches, withdrawn at exit X, priority')

@@ -101,11 +101,11 @@ def calculated(a, draw):
 
 class Round:
     """What a page should say of a round."""
-    def __init__(self, a, draw):
-        self.number, self.p, self.target = a.round, list(a.p), list(a.target)
+    def __init__(self, a, draw, overrides):
+        self.number, self.p, self.mark, self.target = a.round, list(a.p), list(a.mark), list(a.target)
         self.defaults = [i for i in range(a.bidders) if not a.has_filed(i)]
         self.done, self.bids, self.holds = calculated(a, draw)
-        steps = model.calculate(a, draw)
+        steps = model.calculate(a, draw, overrides)
         self.counts = steps.count('retained', 'denied'), steps.count('denied outbid', 'retained outbid')
         n, m = a.products, a.bidders
         assert [[[a.record[i][j].g, a.record[i][j].d, a.record[i][j].r] for j in range(n)] for i in range(m)] == \
@@ -157,11 +157,12 @@ class Made:
             self.line('ok ' + card.hex(), against.bid_line(i, fields), model.store(a))
         return True
 
-    def calculate(self, draw):
+    def calculate(self, draw, overrides={}):
         a = self.auction()
         self.before = self.state
-        told = Round(a, draw)
-        self.line('ok kept %d outbid %d' % told.counts, 'calculate ' + ' '.join(map(str, draw)), model.store(a))
+        told = Round(a, draw, overrides)
+        given = 'calculate ' + ' '.join(map(str, draw)) + ' override' * bool(overrides) + ''.join(' %d %d' % e for e in overrides.items())
+        self.line('ok kept %d outbid %d' % told.counts, given, model.store(a))
         self.rounds[told.number] = told
         if told.number == 1:
             self.first, self.cut = model.load(self.state), None
@@ -213,6 +214,13 @@ def draw_of(rnd, a):
     return draw
 
 
+def overrides_of(rnd, a):
+    """In half of the cases some, of any products."""
+    products = range(model.PRODUCTS if rnd.random() < .1 else a.products)
+    many = min(len(products), rnd.choice([1, 1, 2, 3])) if rnd.random() < .5 else 0
+    return {j: rnd.choice([1, 1000, rnd.randint(1, 1000)]) for j in rnd.sample(products, many)}
+
+
 def bid_round(rnd, made, absent=.1, still=0):
     """Cards of a round: some bidders send none, and some bid as before."""
     a = made.auction()
@@ -247,7 +255,7 @@ def random_auction(rnd, path):
         if rnd.random() < .1:
             continue  # a line or two may lie between, and cards be filed again
         was = dict(made.rounds), made.cut, made.first
-        made.calculate(draw_of(rnd, a))
+        made.calculate(draw_of(rnd, a), overrides_of(rnd, a))
         what = rnd.random()
         if what < .12:
             made.undo()
@@ -305,7 +313,8 @@ class Page:
 
 
 def cells(row):
-    return {e.get('data-what'): text(e) for e in row if e.get('data-what')}
+    """By what they are, without the word beside a price that was overridden."""
+    return {e.get('data-what'): re.sub(r' *overridden$', '', text(e)) for e in row if e.get('data-what')}
 
 
 def said(unit, amount):
@@ -401,6 +410,7 @@ def compared(made, raw, names={}):
                 'denied': str(r.sum(j, 'denied')), 'cancelled': str(r.sum(j, 'cancelled')), 'deemed': str(r.sum(j, 'deemed')),
                 'outbid': str(r.sum(j, 'freed', 'gone'))}, cells(row))
             same('round %d, name of product %d' % (r.number, j), named('product', j), text(row[0]))
+            same('round %d, product %d, overridden' % (r.number, j), r.mark[j], text(row).count('overridden'))
         sums = {e.get('data-what'): text(e) for e in section.find('p[@class="sum"]').iter('span') if e.get('data-what')}
         same('round %d' % r.number, {'bid': str(sum(l.b for b in r.bids for l in b)), 'kept': str(r.counts[0]),
                                      'outbid': str(r.counts[1]), 'excess': str(r.excess)}, sums)
@@ -517,7 +527,7 @@ def long_auction(path, rounds):
 
 def main():
     folder = sys.argv[1]
-    seed = int(sys.argv[2]) if len(sys.argv) > 2 else 11
+    seed = int(sys.argv[2]) if len(sys.argv) > 2 else 12
     rnd = random.Random(seed)
     phases, kinds = set(), set()
     wrong = []
@@ -531,12 +541,13 @@ def main():
             wrong += ['auction %d: %s' % (k, w) for w in compared(made, raw)]
         phases.add(a.phase)
         for r in made.calculated():
-            kinds |= {w for _, _, w in r.done} | ({'default'} if r.defaults else set())
+            kinds |= {w for _, _, w in r.done} | ({'default'} if r.defaults else set()) | ({'overridden'} if any(r.mark) else set())
         kinds |= {'cutback'} if made.cut is not None else set()
         kinds |= {g for line in made.lines for g in ('undo', 'void', 'return') if re.search(r': %s|%s:' % (g, g), line)}
     told('60 random auctions, every figure of their pages', wrong)
     told('of them some open, closed and stopped, with every kind of event', sorted(
-        {1, 2, 3} - phases) + sorted({'retained', 'denied', 'cancelled', 'freed', 'gone', 'default', 'cutback', 'undo', 'void', 'return'} - kinds))
+        {1, 2, 3} - phases) + sorted({'retained', 'denied', 'cancelled', 'freed', 'gone', 'default', 'overridden', 'cutback', 'undo', 'void',
+                                      'return'} - kinds))
 
     # "the denied switch is outbid; bidder 0 has f = 1; prices 970, 913; excess 2"; "instead .. bidder 0 is deemed to bid 2; prices 941, 913"
     for name, third, want in (('outbid', [[(0, 0), (1, 0)], [(1, 0), (1, 0)], [(1, 1), (1, 0)]], ((0, 0, 'freed'), [970, 913])),

@@ -1,1 +1,2 @@
 pub mod Typing
+pub mod Overrides

@@ -1,9 +1,10 @@
-// What is typed after a command's word: plain numbers, a card's bytes, settings, bid lines, a cutback. What is wrong is put into the lent
+// What is typed after a command's word: plain numbers, a card's bytes, settings, bid lines, overrides, a cutback. What is wrong is put into the lent
 // answer, with its column, and the length of that is handed back.
 mod bidding;
 mod cutting;
 mod numbers;
 mod opening;
+mod overriding;
 
 pub use bidding::card;
 pub use bidding::groups;
@@ -15,7 +16,6 @@ pub use cutting::pairs;
 pub use cutting::revised_of;
 pub use numbers::Numbers;
 pub use numbers::One;
-pub use numbers::all_numbers;
 pub use numbers::draw_of;
 pub use numbers::ends;
 pub use numbers::one_byte;
@@ -23,3 +23,5 @@ pub use numbers::one_number;
 pub use numbers::two_bytes;
 pub use opening::Opening;
 pub use opening::settings;
+pub use overriding::Drawn;
+pub use overriding::draw;

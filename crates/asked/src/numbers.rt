@@ -97,6 +97,14 @@ pub fn unless(said: usize, n: usize) -> Numbers {
     Numbers::Said(said)
 }
 
+// 0 where nothing is left of a line after n numbers, `most` of them at most; otherwise the length of the error.
+pub fn rest(line: &[u8], c: Cursor, n: usize, most: usize, out: &mut [u8; ANSWER]) -> usize {
+    if most <= n {
+        return ends(line, c, out);
+    }
+    left(line, c, b"not a number", out)
+}
+
 // The numbers up to the end of a line, `most` of them at most.
 pub fn all_numbers(
     line: &[u8],
@@ -110,10 +118,7 @@ pub fn all_numbers(
     match take_numbers(line, c, 0, most, numbers) {
         List::Found(found, next) => {
             let n = found as usize;
-            if most <= n {
-                return unless(ends(line, next, out), n);
-            }
-            unless(left(line, next, b"not a number", out), n)
+            unless(rest(line, next, n, most, out), n)
         }
         List::TooLarge(p) => Numbers::Said(too_large(p, out)),
     }

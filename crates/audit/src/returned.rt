@@ -75,7 +75,7 @@ fn put_remains(out: &mut [u8; ANSWER], state: &[u8; STATE], all: u64) -> usize {
     let e = put_left(
         out,
         d,
-        b"products: targets, caps, prices",
+        b"products: targets, caps, prices, marks",
         left_in(state, TARGET, INITIAL),
     );
     let f = put_left(

@@ -10,7 +10,7 @@ use Rattle.rules.specs.Card.{noLine}
 use Rattle.rules.specs.Parts.{row, noRow}
 use Rattle.rules.specs.Settings.{item, setup, targetOf, capOf, startOf, initialOf, percentOf, decrementOf}
 use Rattle.rules.specs.Held.{recordAt, freeOf}
-use Rattle.rules.specs.Bid.{priceAt, beforeAt}
+use Rattle.rules.specs.Bid.{priceAt, beforeAt, markAt}
 use Rattle.rules.specs.Layout.{read1, read2, read3, read4, recordFrom, lineFrom, loaded, productWidth, bidderWidth, rowWidth, recordWidth, lineWidth, productsFrom, biddersFrom, rowsFrom, recordsFrom, bidsFrom}
 use Rattle.rules.proofs.Lists.{list-is, list-ext}
 use Rattle.rules.proofs.Parts.{target-is, cap-is, start-is, initial-is}
@@ -71,6 +71,9 @@ module _ (s : List ℕ) where
 
   pub before-at : (p : ℕ) → p < 8 → read3 s (p * productWidth + (productsFrom + 8)) ≡ beforeAt (loaded s) p
   before-at p h = ap (λ k. read3 s k) (behind 8 p) ∙ sym (ap (λ l. l .before) (lane-read s p h))
+
+  pub mark-at : (p : ℕ) → p < 8 → read1 s (p * productWidth + (productsFrom + 11)) ≡ markAt (loaded s) p
+  mark-at p h = ap (λ k. read1 s k) (behind 11 p) ∙ sym (ap (λ l. l .mark) (lane-read s p h))
 
   pub initial-at : (b : ℕ) → b < 32 → read2 s (b * bidderWidth + biddersFrom) ≡ initialOf (setup (loaded s)) b
   initial-at b h = sym (initial-is (loaded s) b h ∙ ap (λ x. x .initial .0) (seat-read s b h))

@@ -7,7 +7,7 @@ ghost use Rattle.rules.specs.Units.{priceOf, amountOf};
 ghost use Rattle.rules.specs.Card.{noLine};
 ghost use Rattle.rules.specs.Settings.{setup, targetOf, capOf, startOf, initialOf, percentOf, decrementOf};
 ghost use Rattle.rules.specs.Held.{heldIn, recordAt, freeOf};
-ghost use Rattle.rules.specs.Bid.{priceAt, beforeAt, hasFiled};
+ghost use Rattle.rules.specs.Bid.{priceAt, beforeAt, markAt, hasFiled};
 ghost use Rattle.rules.specs.Layout.{read1, read2, read3, loaded};
 ghost use Rattle.book.specs.Lent.{Long};
 use rules::BasisPoints;
@@ -150,6 +150,14 @@ pub fn before(s: &[u8], p: usize) -> Price
     ensures { λ r. ⌜ (r ≡ priceOf (loaded (now (s .entry)) .terms .unit) (beforeAt (loaded (now (s .entry))) p)) × (amountOf r ≡ beforeAt (loaded (now (s .entry))) p) ⌝ }
 {
     Price::of(unit(s), three(s, p * layout::LANE + layout::BEFORE))
+}
+
+// 1 where the going price was overridden, else 0.
+pub fn mark(s: &[u8], p: usize) -> u8
+    requires { ⌜ Long (now s) × (p < 8) ⌝ }
+    ensures { λ r. ⌜ r ≡ markAt (loaded (now (s .entry))) p ⌝ }
+{
+    s[p * layout::LANE + layout::MARK]
 }
 
 // ---- One bidder

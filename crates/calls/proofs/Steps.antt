@@ -6,6 +6,7 @@ use Prim.Native.Nat.{ℕ}
 use lib.ListN.{length}
 use Rattle.rules.specs.declared.Settings.{Settings}
 use Rattle.rules.specs.declared.Tranches.{Tranches}
+use Rattle.rules.specs.declared.Chosen.{Chosen}
 use Rattle.rules.specs.Calls.{openCall, fileCall, calculateCall, cutbackCall, returnCall}
 use Rattle.rules.specs.Uses.{opens, files, calculates, cuts, called, returned, used, Called, Reached}
 use Rattle.calls.specs.Lines.{openWord, fileWord, bidWord, calculateWord, cutbackWord, returnWord, Made, Left, firstWord, Step, Steps, Served, NoUndo}
@@ -20,8 +21,8 @@ module _ (s t : List ℕ) where
   pub bid : (card : List ℕ) → t ≡ fileCall s card .bytes → Made bidWord s t
   bid card e = inr (called (files card) tt, (inr refl, e))
 
-  pub calculated : (draw : List ℕ) → t ≡ calculateCall s draw .bytes → Made calculateWord s t
-  calculated draw e = inr (called (calculates draw) tt, (refl, e))
+  pub calculated : (draw : List ℕ) (os : List Chosen) → t ≡ calculateCall s draw os .bytes → Made calculateWord s t
+  calculated draw os e = inr (called (calculates draw os) tt, (refl, e))
 
   pub cut : (targets caps : List Tranches) → t ≡ cutbackCall s targets caps .bytes → Made cutbackWord s t
   cut targets caps e = inr (called (cuts targets caps) tt, (refl, e))

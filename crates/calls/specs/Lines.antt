@@ -33,7 +33,7 @@ abbrev pub Names : List ℕ → Use → Type 0
 Names w (called (opens x) h) = w ≡ openWord
 Names w (called (files c) h) = (w ≡ fileWord) ⊎ (w ≡ bidWord)
 Names w (called counts h) = ⊥
-Names w (called (calculates draw) h) = w ≡ calculateWord
+Names w (called (calculates draw os) h) = w ≡ calculateWord
 Names w (called (cuts targets caps) h) = w ≡ cutbackWord
 Names w (called (reports b) h) = ⊥
 Names w (called results h) = ⊥

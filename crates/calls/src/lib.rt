@@ -18,6 +18,7 @@ use check::same;
 use layout::STATE;
 use rules::Answer;
 use rules::Calculation;
+use rules::Chosen;
 use rules::Count;
 use rules::Line;
 use rules::Settings;
@@ -137,10 +138,11 @@ fn return_box(
 
 // ---- A calculation
 
-// `ok kept K outbid O`, and what the round did; or what is wrong with the draw.
+// `ok kept K outbid O`, and what the round did; or what is wrong with the draw or an override.
 fn calculated(
     answer: Calculation,
     draw: &[u8],
+    overrides: [Chosen; 8],
     before: &[u8; STATE],
     work: &[u8; STATE],
     out: &mut [u8; ANSWER],
@@ -150,17 +152,20 @@ fn calculated(
             let a = put_named(out, 0, b"ok kept ", kept as u64);
             let b = put_named(out, a, b" outbid ", outbid as u64);
             let c = put(out, b, b"\n");
-            Made::Done(Act::Calculation, put_calculated(out, c, before, work))
+            Made::Done(
+                Act::Calculation,
+                put_calculated(out, c, before, overrides, work),
+            )
         }
         Calculation::Refused(n) => {
             let a = put_refused(out, n);
-            let b = remark::of_draw(out, a, n, work, draw);
+            let b = remark::of_round(out, a, n, work, draw, overrides);
             Made::Said(put(out, b, b"\n"))
         }
     }
 }
 
-// `calculate D0 D1 ..`
+// `calculate D0 D1 .. override PRODUCT POINTS ..`
 fn calculate(
     line: &[u8],
     c: Cursor,
@@ -171,22 +176,23 @@ fn calculate(
     ensures { λ _. ⌜ Makes calculateWord (now (work .entry)) (now (work .exit)) ⌝ }
 {
     let mut numbers = [0u32; 40];
-    match asked::all_numbers(line, c, 40, &mut numbers, out) {
-        Numbers::Found(k) => {
-            let wrong = other_length(kind, work, out);
-            if wrong != 0 {
-                return Made::Said(wrong);
-            }
-            let draw = draw_of(numbers);
-            if 40 < k {
-                return Made::Other;
-            }
-            let before = copy_of(work);
-            let answer = console::calculate(work, &draw[0..k]);
-            calculated(answer, &draw[0..k], &before, work, out)
-        }
-        Numbers::Said(n) => Made::Said(n),
+    let asked = asked::draw(line, c, &mut numbers, out);
+    if asked.said != 0 {
+        return Made::Said(asked.said);
     }
+    let wrong = other_length(kind, work, out);
+    if wrong != 0 {
+        return Made::Said(wrong);
+    }
+    let draw = draw_of(numbers);
+    let k = asked.count;
+    if 40 < k {
+        return Made::Other;
+    }
+    let overrides = asked.overrides;
+    let before = copy_of(work);
+    let answer = console::calculate(work, &draw[0..k], overrides);
+    calculated(answer, &draw[0..k], overrides, &before, work, out)
 }
 
 // How many products a bid or a cutback has to name, or how long the refusal is where neither is open to it.

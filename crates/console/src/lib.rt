@@ -8,6 +8,7 @@ use rules::Answer;
 use rules::Awarded;
 use rules::Calculation;
 use rules::CardRead;
+use rules::Chosen;
 use rules::Count;
 use rules::Line;
 use rules::Reported;
@@ -59,15 +60,15 @@ pub fn count(s: &[u8]) -> Count
     Count::ToFile(still)
 }
 
-// Calculate a round: 1, 2, 3, 14.
-pub fn calculate(s: &mut [u8], draw: &[u8]) -> Calculation
-    ensures { λ r. ⌜ Leaves (calculateCall (now (s .entry)) (now (draw .entry))) r (now (s .exit)) ⌝ }
+// Calculate a round, with one optional override a product: 1, 2, 3, 14, 19.
+pub fn calculate(s: &mut [u8], draw: &[u8], overrides: [Chosen; 8]) -> Calculation
+    ensures { λ r. ⌜ Leaves (calculateCall (now (s .entry)) (now (draw .entry)) overrides) r (now (s .exit)) ⌝ }
 {
-    let n = numbers::calculate_number(s, draw);
+    let n = numbers::calculate_number(s, draw, overrides);
     if n != 0 {
         return Calculation::Refused(n);
     }
-    let done = round::calculate(s, draw);
+    let done = round::calculate(s, draw, overrides);
     Calculation::Done {
         kept: done.kept,
         outbid: done.outbid,

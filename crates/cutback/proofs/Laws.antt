@@ -1,30 +1,33 @@
 -- Whether the numbers fit; and the reduced book, worked out before it is written. Assumes nothing.
 use mathlib.Core.Path.{_≡_, refl, sym, ap, ap₂, _∙_}
 use mathlib.Core.Bool.{Bool, true, false, _&&_, cond}
-use mathlib.Core.List.{List}
+use mathlib.Core.List.{List, []}
 use Prim.Native.Nat.{ℕ, zero, suc, _+_, _*_, _-_, _%_, _≤_, _<_, min}
 use native.Mathlib.Omega.{arith}
 use borrow.Author.Tests.{le-leb, le-ltb, leb-true, leb-false, eqb-true, ne-eqb}
 use lib.Dec.{leb, ltb, eqb}
+use lib.ListN.{replicate, getD-replicate}
 use Rattle.rules.specs.declared.Tranches.{Tranches}
 use Rattle.rules.specs.declared.Place.{Place}
+use Rattle.rules.specs.declared.Override.the-variants as override
 use Rattle.rules.specs.declared.Setup.{Setup}
 use Rattle.rules.specs.declared.Auction.{Auction}
 use Rattle.rules.specs.Count.{sumUpTo, allUpTo, listOf}
 use Rattle.rules.specs.Units.{tranches}
 use Rattle.rules.specs.Answers.{bidsOpen, stopped}
-use Rattle.rules.specs.Parts.{tranchesAt, noLane, laneAt, priced, limited, auction, withPhase, withLimits, withPrices}
+use Rattle.rules.specs.Parts.{tranchesAt, noLane, laneAt, priced, marked, limited, auction, withPhase, withLimits, withPrices, unmarked}
 use Rattle.rules.specs.Settings.{between, setup, targetOf, capOf, startOf}
-use Rattle.rules.specs.Held.{nothing, goingIn, heldIn, recordAt, place, setTo}
+use Rattle.rules.specs.Held.{nothing, goingIn, heldIn, recordAt, place, setTo, above, standingOf}
 use Rattle.rules.specs.Accept.{at, nowhere, placeAt, column, heldOf}
-use Rattle.rules.specs.Bid.{recordOf}
-use Rattle.rules.specs.Round.{opensAt, priceNext, beforeNext, stops}
+use Rattle.rules.specs.Bid.{oneIf, recordOf, priceAt}
+use Rattle.rules.specs.Price.{nextPrice}
+use Rattle.rules.specs.Round.{notChosen, overrideFor, opensAt, priceNext, markNext, beforeNext, stops}
 use Rattle.rules.specs.Cutback.{givenFor, numbersFit, freeCut, setToCaps, reduced, cutBack}
 use Rattle.rules.specs.Layout.{loaded}
 use Rattle.rules.proofs.Allowed.{leb-min}
 use Rattle.rules.proofs.Sums.{sum-ext, sum-le, and-left}
 use Rattle.rules.proofs.Lists.{list-at, list-ext, all-take}
-use Rattle.rules.proofs.Parts.{target-is, free-ext}
+use Rattle.rules.proofs.Parts.{target-is, marked-at, free-ext}
 use Rattle.rules.proofs.Priorities.{sum-const}
 use Rattle.rules.proofs.Fitting.{bidder-small, record-small}
 use Rattle.book.specs.Lent.{Counts}
@@ -126,6 +129,11 @@ module _ (s : List ℕ) (targets caps : List Tranches) (C : Cutting s targets ca
             omega (arith, sum-const 200 (loaded s .terms .products), bidder-small (loaded s) (C .stands) b h);
       }
 
+-- with no override no price is marked
+no-mark : (t : Bool) → oneIf (t && false) ≡ 0
+no-mark true = refl
+no-mark false = refl
+
 module _ (a : Auction) (targets caps : List Tranches) where
   abbrev z : Auction
   z = reduced a targets caps
@@ -134,7 +142,10 @@ module _ (a : Auction) (targets caps : List Tranches) where
   placed k = at (setTo (recordAt (a .records) k) (givenFor caps (k % 8))) 0 0 0 0 0
 
   abbrev limits : Auction
-  limits = withLimits (setToCaps a caps) (givenFor targets) (givenFor caps)
+  limits = unmarked (withLimits (setToCaps a caps) (givenFor targets) (givenFor caps))
+
+  unmarked-is : (p : ℕ) → p < 8 → laneAt limits p ≡ marked (laneAt (withLimits (setToCaps a caps) (givenFor targets) (givenFor caps)) p) 0
+  unmarked-is = marked-at (withLimits (setToCaps a caps) (givenFor targets) (givenFor caps)) (λ p. 0)
 
   -- a lane of it has the revised target, at the starting price
   lane-is : (p : ℕ) → p < 8 → laneAt z p ≡ priced (laneAt limits p) (startOf (setup a) p) (startOf (setup a) p)
@@ -143,7 +154,7 @@ module _ (a : Auction) (targets caps : List Tranches) where
 
   target-of : (p : ℕ) → p < 8 → targetOf (setup z) p ≡ givenFor targets p
   target-of p h =
-      target-is z p h ∙ ap (λ l. l .target .0) (lane-is p h)
+      target-is z p h ∙ ap (λ l. l .target .0) (lane-is p h) ∙ ap (λ l. l .target .0) (unmarked-is p h)
       ∙ ap (λ l. l .target .0) (list-at (λ p. limited (laneAt (setToCaps a caps) p) (givenFor targets p) (givenFor caps p)) noLane 8 p h)
 
   module _ (ps : List Place) (e : ps ≡ listOf placed 256) where
@@ -172,16 +183,16 @@ module _ (a : Auction) (targets caps : List Tranches) where
       }
 
       module _ {r : Outlook} (F : Foresees a holds l r) (m : a .terms .products ≤ 8) (free : List Tranches)
-          (f : free ≡ listOf (λ b. tranches (freeCut a caps b)) 32) where
+          (f : free ≡ listOf (λ b. tranches (freeCut a caps b)) 32) (given : l .overrides ≡ replicate 8 notChosen) where
         seats-is : limitedTo a ps free targets caps .seats ≡ z .seats
         unfolding reduced
         seats-is =
             free-ext a (tranchesAt free) (freeCut a caps) (λ b h.
             ap (λ fs. tranchesAt fs b) f ∙ ap (λ n. n .0) (list-at (λ b. tranches (freeCut a caps b)) (tranches 0) 32 b h))
 
-        settled : (t : Bool) → r .stops ≡ t → cond t z (opensAt (z .round) z) ≡ cutBack a targets caps
+        settled : (t : Bool) → r .stops ≡ t → cond t z (opensAt [] (z .round) z) ≡ cutBack a targets caps
         unfolding cutBack
-        settled t g = ap (λ t. cond t z (opensAt (z .round) z)) (sym g ∙ stops-of F shows m)
+        settled t g = ap (λ t. cond t z (opensAt [] (z .round) z)) (sym g ∙ stops-of F shows m)
 
         -- "the auction is then stopped in round 2, with p = q = starting price"
         pub ends : r .stops ≡ true
@@ -192,11 +203,21 @@ module _ (a : Auction) (targets caps : List Tranches) where
             (λ p h. ap₂ (priced (laneAt limits p)) (L .price p h) (L .price p h)) in
             (λ i. auction stopped (a .round) (a .terms) (ls i) (seats-is i) (a .decrements) (records-is i) (a .cards)) ∙ settled true g
 
+        none : (p : ℕ) → p < 8 → overrideFor (l .overrides) p ≡ override.None
+        none p h = ap (λ os. overrideFor os p) given ∙ ap (λ c. c .decrement) (getD-replicate 8 p notChosen notChosen h)
+
+        -- the lane worked out afresh
+        fresh : (p : ℕ) → p < 8 → laneAt (withPrices z (priceNext [] z) (beforeNext z)) p ≡ priced (laneAt limits p) (priceNext [] z p) (beforeNext z p)
+        fresh p h =
+            list-at (λ p. priced (laneAt z p) (priceNext [] z p) (beforeNext z p)) noLane 8 p h
+            ∙ ap (λ l. priced l (priceNext [] z p) (beforeNext z p)) (lane-is p h)
+
         pub goes-on : r .stops ≡ false
             → withPrices (withPhase (limitedTo a ps free targets caps) bidsOpen) (amountAt (r .price)) (amountAt (r .before)) ≡ cutBack a targets caps
         unfolding reduced
         goes-on g =
-            let ls = list-ext (λ p. priced (laneAt limits p) (amountAt (r .price) p) (amountAt (r .before) p)) (λ p. priced (laneAt z p) (priceNext z p) (beforeNext z p)) 8
-            (λ p h. ap₂ (priced (laneAt limits p)) (price-of F shows m p h) (before-of F shows m p h)
-            ∙ sym (ap (λ l. priced l (priceNext z p) (beforeNext z p)) (lane-is p h))) in
+            let ls = list-ext (λ p. priced (laneAt limits p) (amountAt (r .price) p) (amountAt (r .before) p))
+            (λ p. marked (laneAt (withPrices z (priceNext [] z) (beforeNext z)) p) (markNext [] z p)) 8
+            (λ p h. ap₂ (priced (laneAt limits p)) (price-of F shows m p h ∙ ap (λ o. nextPrice (z .decrements) o (standingOf z p) (targetOf (setup z) p) (priceAt z p) .price) (none p h)) (before-of F shows m p h)
+            ∙ ap₂ marked (sym (fresh p h)) (ap (λ l. l .mark) (unmarked-is p h) ∙ sym (no-mark (above (standingOf z p))))) in
             (λ i. auction bidsOpen (a .round) (a .terms) (ls i) (seats-is i) (a .decrements) (records-is i) (a .cards)) ∙ settled false g

@@ -9,7 +9,7 @@ use Rattle.rules.specs.declared.Place.{Place}
 use Rattle.rules.specs.declared.Setup.{Setup}
 use Rattle.rules.specs.declared.Auction.{Auction}
 use Rattle.rules.specs.Count.{sumUpTo}
-use Rattle.rules.specs.Parts.{tranchesAt, withLimits, withFree, withRecords}
+use Rattle.rules.specs.Parts.{tranchesAt, withLimits, unmarked, withFree, withRecords}
 use Rattle.rules.specs.Settings.{targetOf, capOf}
 use Rattle.rules.specs.Held.{goingIn, freeOf}
 use Rattle.rules.specs.Bid.{recordOf}
@@ -27,10 +27,10 @@ fitsAfter t target cap last p =
     ((leb target (targetOf t p) && leb cap (capOf t p)) && ((leb 1 target && leb 1 cap) && (leb target last && leb cap target)))
     (eqb target 0 && eqb cap 0)
 
--- the records of these places, this free eligibility, and the revised targets and caps
+-- the records of these places, this free eligibility, the revised targets and caps, and no marks
 abbrev pub limitedTo : Auction → List Place → List Tranches → List Tranches → List Tranches → Auction
 limitedTo a ps free targets caps =
-    withRecords (withFree (withLimits a (tranchesAt targets) (tranchesAt caps)) (tranchesAt free)) (recordsIn ps)
+    withRecords (withFree (unmarked (withLimits a (tranchesAt targets) (tranchesAt caps))) (tranchesAt free)) (recordsIn ps)
 
 -- what bidder b has at the going prices
 abbrev pub goingBy : Auction → ℕ → ℕ

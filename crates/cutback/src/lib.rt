@@ -1,13 +1,14 @@
 // Document 02, request 3: "Volume cutback after round 1": whether it may be done, the auction that it leaves, and the helper.
 ghost use mathlib.Core.Path.{_≡_};
 ghost use Prim.Native.Nat.{_%_, _<_, min};
-ghost use lib.ListN.{length};
+ghost use lib.ListN.{length, replicate};
 ghost use Rattle.rules.specs.Count.{sumUpTo, listOf};
 ghost use Rattle.rules.specs.Allowed.{limits};
 ghost use Rattle.rules.specs.Units.{tranches};
 ghost use Rattle.rules.specs.Settings.{setup, targetOf, capOf, startOf};
 ghost use Rattle.rules.specs.Held.{recordAt, setTo};
 ghost use Rattle.rules.specs.Accept.{at};
+ghost use Rattle.rules.specs.Round.{notChosen};
 ghost use Rattle.rules.specs.Cutback.{givenFor, mayCut, freeCut, cutBack};
 ghost use Rattle.rules.specs.Calls.{suggestedCall};
 ghost use Rattle.rules.specs.Layout.{loaded, stored};
@@ -16,9 +17,11 @@ ghost use Rattle.table.specs.Rows.{placesIn};
 ghost use Rattle.prices.specs.Outlook.{Listed};
 ghost use Rattle.cutback.specs.Cuttable.{fitsAfter, Cuttable, limitedTo, Cutting};
 use prices::Lanes;
+use rules::Chosen;
 use rules::Limits;
 use rules::Lot;
 use rules::OPEN;
+use rules::Override;
 use rules::Place;
 use rules::Price;
 use rules::Quote;
@@ -109,10 +112,10 @@ pub fn may_cut(s: &[u8], targets: [Tranches; 8], caps: [Tranches; 8]) -> bool
 
 // ---- The cutback
 
-// The revised targets, at the starting prices.
+// The revised targets, at the starting prices; no override is given.
 fn lanes_of(s: &[u8], targets: [Tranches; 8]) -> Lanes
     requires { ⌜ Long (now s) ⌝ }
-    ensures { λ r. ⌜ Listed r (givenFor targets) (startOf (setup (loaded (now (s .entry))))) (startOf (setup (loaded (now (s .entry))))) ⌝ }
+    ensures { λ r. ⌜ Listed r (givenFor targets) (startOf (setup (loaded (now (s .entry))))) (startOf (setup (loaded (now (s .entry))))) × (r .overrides ≡ replicate 8 notChosen) ⌝ }
 {
     let none = Quote {
         price: Price::of(0, 0),
@@ -127,10 +130,14 @@ fn lanes_of(s: &[u8], targets: [Tranches; 8]) -> Lanes
         price[p] = Quote { price: x };
         p += 1;
     }
+    let not_chosen = Chosen {
+        decrement: Override::None,
+    };
     Lanes {
         target,
         price,
         before: price,
+        overrides: [not_chosen; 8],
     }
 }
 
@@ -190,7 +197,7 @@ fn freed(s: &[u8], caps: [Tranches; 8]) -> [Tranches; 32]
     all
 }
 
-// The phase and the prices are written by its caller.
+// The phase and the prices are written by its caller; "overrides and their marks dropped".
 fn reduce(
     s: &mut [u8],
     ps: &[[u32; WIDTH]; 256],
@@ -203,6 +210,7 @@ fn reduce(
 {
     let _ = storing::as_stored(s);
     storing::limits(s, targets, caps);
+    storing::no_marks(s);
     storing::free(s, free);
     storing::records(s, ps);
 }

@@ -148,8 +148,9 @@ pub fn put_cutback(out: &mut [u8; ANSWER]) -> usize {
            and all targets together not below the statewide cap. What stays is given as it was.
   changes
     The box: a bidder above a reduced cap is set to the cap, and the rest is free eligibility. The
-    prices of round 2 are worked out again, from the starting prices. It may be done again until a
-    card is filed. undo does not take it back alone: it takes back the calculation of round 1 too.
+    prices of round 2 are worked out again, from the starting prices and without overrides. It may
+    be done again until a card is filed. undo does not take it back alone: it takes back the
+    calculation of round 1 too.
     Cut before any report of round 1 goes out: the reports tell the prices of round 2.
   refused
 ",

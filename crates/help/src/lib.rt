@@ -35,7 +35,9 @@ fn put_rounds(out: &mut [u8; ANSWER]) -> usize {
     put(
         out,
         a,
-        b"    calculate D0 D1 ..    calculate the round; all bidders in draw order, earliest first
+        b"    calculate D0 D1 .. [override P POINTS ..]
+                          calculate the round; all bidders in draw order, earliest first; an
+                          override is the manager's decrement for product P, in this round alone
     show                  the whole state
     undo                  put back the state before the last calculation or return, once
     suggest BID RATIO     after round 1: the volume for BID tranches bid, RATIO in hundredths

@@ -137,6 +137,16 @@ pub fn put_too_soon(out: &mut [u8; ANSWER], at: usize) -> usize {
     )
 }
 
+pub fn put_override(out: &mut [u8; ANSWER], at: usize) -> usize {
+    put(
+        out,
+        at,
+        b"    19  an override is not 1 to 1000 basis points, also one that would do nothing: leave it out, or
+        give one that is allowed
+",
+    )
+}
+
 pub fn put_no_cutback(out: &mut [u8; ANSWER], at: usize) -> usize {
     put(
         out,
@@ -206,14 +216,15 @@ fn put_second(out: &mut [u8; ANSWER], at: usize) -> usize {
 pub fn put_refusals(out: &mut [u8; ANSWER]) -> usize {
     let a = put_first(out);
     let b = put_second(out, a);
-    let c = put_no_cutback(out, b);
-    let d = put_products(out, c);
-    let e = put_fields(out, d);
-    let f = put_ratio(out, e);
+    let c = put_override(out, b);
+    let d = put_no_cutback(out, c);
+    let e = put_products(out, d);
+    let f = put_fields(out, e);
+    let g = put_ratio(out, f);
     put(
         out,
-        f,
-        b"  19, 21 to 28 and all above 31 are never given.
+        g,
+        b"  21 to 28 and all above 31 are never given.
 ",
     )
 }

@@ -9,10 +9,13 @@ pub fn put_calculate(out: &mut [u8; ANSWER]) -> usize {
         0,
         b"ok
   calculate D0 D1 ..
+  calculate D0 D1 .. override P POINTS ..
       calculates the round
   words
     D0 D1 ..  all bidders, each once, in the order of the draw, earliest first; also those who have
               not filed. Draw by lot, best before the bids are seen; the box draws nothing
+    P POINTS  of each product whose price is to fall by your decrement instead of that of its row:
+              the product, and 1 to 1000 basis points. It holds for this calculation alone
     The answer is ok kept K outbid O: K tranches are kept to fill a target, withdrawals that are
     retained and switches that are denied; O that were kept before are outbid by new tranches.
   default bids
@@ -24,7 +27,11 @@ pub fn put_calculate(out: &mut [u8; ANSWER]) -> usize {
     let b = put(
         out,
         a,
-        b"  changes
+        b"  overrides
+    A price that falls by your decrement is overridden: the answer, show and every report say so
+    until the next calculation or a cutback. An override does nothing where the product is not above
+    target, or where the auction closes or stops; the answer says which did nothing.
+  changes
     The box: the next round is open at its prices, or the auction is closed (total excess supply is
     0), or stopped (a product above target at price 1, or round 4095). The state before is kept as
     BOX.before: undo puts it back, once.
@@ -33,12 +40,17 @@ pub fn put_calculate(out: &mut [u8; ANSWER]) -> usize {
     );
     let c = refusals::put_not_open(out, b);
     let d = refusals::put_draw(out, c);
+    let e = refusals::put_override(out, d);
     put(
         out,
-        d,
+        e,
         b"  example, at the end of round 1 of examples/new-jersey
-    > calculate 2 3 1 0 5 4
+    > calculate 2 3 1 0 5 4 override 0 200
     ok kept 0 outbid 0
+    > show
+    ok open round 2 unit kwh statewide 21
+      product 0 target 29 cap 14 start 14500 price 14210 before 14500 held 44 overridden
+    The price of product 0 falls by 2 percent; without an override it falls by the 4.25 of its row.
 ",
     )
 }
@@ -82,7 +94,8 @@ pub fn put_show(out: &mut [u8; ANSWER]) -> usize {
   what it says
     first line   issued, or open, closed or stopped, with round, unit and statewide cap
     product      target, cap, start (starting price), price (going), before (the price before its
-                 latest fall) and held (all tranches bid, denied and retained)
+                 latest fall) and held (all tranches bid, denied and retained); overridden where
+                 the price fell by a decrement of the manager's
     row          percentage of the target, decrement in basis points
     bidder       eligibility (initial), free, filed (1 where its card is filed); of each product
                  four numbers: going, denied, retained, and the exit price of the retained
@@ -118,7 +131,8 @@ pub fn put_report(out: &mut [u8; ANSWER]) -> usize {
     The first line has the phase, the range that total excess supply is in (the exact number is not
     told) and the bidder's free eligibility, which it may bid in the next round or loses. Then of
     each product the going price in the unit, and the bidder's tranches: going (at the going price),
-    denied (switches), retained (withdrawals) with their exit price.
+    denied (switches), retained (withdrawals) with their exit price; overridden where the price fell
+    by a decrement of the manager's.
   changes
     nothing
   refused

@@ -9,10 +9,12 @@ use libc::STDIN_FILENO;
 use libc::STDOUT_FILENO;
 use rules::BasisPoints;
 use rules::Calculation;
+use rules::Chosen;
 use rules::Count;
 use rules::KwhPrice;
 use rules::Line;
 use rules::Lot;
+use rules::Override;
 use rules::Price;
 use rules::Product;
 use rules::Row;
@@ -93,6 +95,13 @@ fn draw() -> [u8; 32]
     order
 }
 
+fn no_overrides() -> [Chosen; 8] {
+    let none = Chosen {
+        decrement: Override::None,
+    };
+    [none; 8]
+}
+
 // The state is returned, and an auction opened whose bidders may bid `each` tranches.
 fn opened(state: &mut [u8], each: u16) {
     console::return_box(state);
@@ -102,7 +111,7 @@ fn opened(state: &mut [u8], each: u16) {
 // A round in which every bidder files the same lines.
 fn played(state: &mut [u8], round: u16, lines: [Line; 8]) {
     file_all(state, round, lines);
-    console::calculate(state, &draw());
+    console::calculate(state, &draw(), no_overrides());
 }
 
 // Round 2 with 224 tranches bid on every product, and nobody has filed.
@@ -159,7 +168,7 @@ fn say(words: &[u8], n: u32) {
 
 fn calculated(start: [u8; STATE]) {
     let mut state = start;
-    let answer = console::calculate(&mut state, &draw());
+    let answer = console::calculate(&mut state, &draw(), no_overrides());
     match answer {
         Calculation::Done { kept, outbid } => {
             say(b"kept ", kept);
@@ -185,7 +194,7 @@ fn written(state: [u8; STATE]) {
 
 fn written_after(start: [u8; STATE]) {
     let mut state = start;
-    console::calculate(&mut state, &draw());
+    console::calculate(&mut state, &draw(), no_overrides());
     io::write_all(STDOUT_FILENO, &state);
 }
 

@@ -2,7 +2,7 @@
 use mathlib.Core.Path.{_≡_, refl, sym, _∙_, ap}
 use mathlib.Core.Bool.{Bool, true, false, cond}
 use mathlib.Core.Logic.{_⊎_, inl, inr}
-use mathlib.Core.List.{List}
+use mathlib.Core.List.{List, []}
 use Prim.Native.Nat.{ℕ, _+_, _*_, _-_, _%_, _^_, _≤_, _<_, min}
 use native.Mathlib.Omega.{arith}
 use native.Mathlib.Nat.{zero-div}
@@ -12,15 +12,16 @@ use lib.Dec.{eqb, ltb}
 use Rattle.rules.specs.declared.Tranches.{Tranches}
 use Rattle.rules.specs.declared.Record.{Record}
 use Rattle.rules.specs.declared.Lane.{Lane}
+use Rattle.rules.specs.declared.Override.the-variants as override
 use Rattle.rules.specs.declared.Setup.{Setup}
 use Rattle.rules.specs.declared.Auction.{Auction}
 use Rattle.rules.specs.Count.{sumUpTo}
 use Rattle.rules.specs.Answers.{bidsOpen, stopped}
-use Rattle.rules.specs.Parts.{noLane, withPhase, withLanes, withPrices}
+use Rattle.rules.specs.Parts.{noLane, withPhase, withLanes, withPrices, withMarks}
 use Rattle.rules.specs.Settings.{setup, withinLimits, itemWithin, targetOf, capOf, startOf, initialOf}
 use Rattle.rules.specs.Held.{goingIn, deniedIn, retainedIn, exitIn, heldIn, keptIn, recordAt, setTo, held, aboveZero, standingOf, freeOf, excess}
 use Rattle.rules.specs.Bid.{recordOf, priceAt, hasFiled}
-use Rattle.rules.specs.Round.{priceNext, beforeNext, opensAt, stops}
+use Rattle.rules.specs.Round.{overridesFit, priceNext, markNext, beforeNext, opensAt, stops}
 use Rattle.rules.specs.Cutback.{givenFor, mayCut, revised, cutFrom, reduced, cutBack}
 use Rattle.rules.specs.Legal.{isOpen, recordZero, phaseStands}
 use Rattle.rules.specs.Stands.{Limits, Long, Stands}
@@ -30,9 +31,9 @@ use Rattle.rules.proofs.Lists.{clash, both, all-give, list-long}
 use Rattle.rules.proofs.Signed.{above-zero}
 use Rattle.rules.proofs.Tests.{told, shown}
 use Rattle.rules.proofs.Legal.{limits-take, second-none, later-excess, later-open}
-use Rattle.laws.proofs.Prices.{Priced, next, next-none}
-use Rattle.rules.proofs.Parts.{excess-same, price-anew, before-anew, prices-setup}
-use Rattle.rules.proofs.Reduced.{revised-target, revised-cap, revised-start, record-is, record-of, free-is, price-is, before-is, reduced-setup, fit, cut-numbers, cut-past}
+use Rattle.laws.proofs.Prices.{Priced, next, next-none, mark-none}
+use Rattle.rules.proofs.Parts.{excess-same, price-anew, before-anew, prices-setup, mark-anew, price-stays, before-stays, marks-setup}
+use Rattle.rules.proofs.Reduced.{revised-target, revised-cap, revised-start, record-is, record-of, free-is, price-is, before-is, mark-is, reduced-setup, fit, cut-numbers, cut-past}
 
 module _ (a : Auction) (targets caps : List Tranches) where
   abbrev m : ℕ
@@ -180,15 +181,28 @@ module _ (a : Auction) (targets caps : List Tranches) where
     abbrev before : List Lane → ℕ → ℕ
     before ls p = getD ls p noLane .before
 
-    abbrev onwards : List Lane
-    onwards = withPrices z (priceNext z) (beforeNext z) .lanes
+    abbrev mark : List Lane → ℕ → ℕ
+    mark ls p = getD ls p noLane .mark
 
-    -- what the phase and the prices have to meet
+    abbrev priced : Auction
+    priced = withPrices z (priceNext [] z) (beforeNext z)
+
+    abbrev onwards : List Lane
+    onwards = withMarks priced (markNext [] z) .lanes
+
+    on-price : (p : ℕ) → p < 8 → price onwards p ≡ priceNext [] z p
+    on-price p l = price-stays priced (markNext [] z) p l ∙ price-anew z (priceNext [] z) (beforeNext z) p l
+
+    on-before : (p : ℕ) → p < 8 → before onwards p ≡ beforeNext z p
+    on-before p l = before-stays priced (markNext [] z) p l ∙ before-anew z (priceNext [] z) (beforeNext z) p l
+
+    -- what the phase, the prices and the marks have to meet
     record Meets (ph : ℕ) (ls : List Lane) : Type 0 where
       settings : setup (with ph ls) ≡ t
       within : (p : ℕ) → p < m → (1 ≤ price ls p) × (price ls p ≤ before ls p) × (before ls p ≤ startOf (setup a) p)
       fell : (p : ℕ) → p < m → eqb ph bidsOpen ≡ true → targetOf t p < held (z .records) n p → price ls p < before ls p
       none : (p : ℕ) → m ≤ p → p < 8 → (price ls p ≡ 0) × (before ls p ≡ 0)
+      no-mark : (p : ℕ) → p < 8 → mark ls p ≡ 0
       phase : phaseStands (with ph ls) ≡ true
 
     zero-set : (r : Record) (c : ℕ) → recordZero r ≡ true → recordZero (setTo r c) ≡ true
@@ -231,6 +245,8 @@ module _ (a : Auction) (targets caps : List Tranches) where
       fell = λ p hp u l. M .fell p hp u (omega (arith, ap (λ u. targetOf u p) (M .settings)));
       kept = λ p hp h. absurd (let x : ⊥ = omega (arith, kept-none p hp) in x);
       no-price = M .none;
+      marks = λ p hp h. absurd (let x : ⊥ = omega (arith, M .no-mark p (omega (arith, hm))) in x);
+      no-mark = λ p h l. M .no-mark p l;
       exits = λ b p hb hp h. absurd (let x : ⊥ = omega (arith, none-kept b p hb hp) in x);
       no-exit = λ b p hb hp e.
           let q = record-of a targets caps b p (omega (arith, hn)) (omega (arith, hm)) in
@@ -264,19 +280,22 @@ module _ (a : Auction) (targets caps : List Tranches) where
           (omega (arith, L .start p hp), omega arith, omega arith);
       fell = λ p hp t. clash t refl;
       none = λ p h l. let s = L .no-item p h l in (price-is a targets caps p l ∙ s .2, before-is a targets caps p l ∙ s .2);
+      no-mark = mark-is a targets caps;
       phase = rw (cut-unfiled) (both (lt-ltb 0 (excess z) some-excess) e);
     }
 
     onward-setup : setup (with bidsOpen onwards) ≡ t
-    onward-setup = prices-setup z (priceNext z) (beforeNext z) ∙ reduced-setup a targets caps
+    onward-setup = marks-setup priced (markNext [] z) ∙ prices-setup z (priceNext [] z) (beforeNext z) ∙ reduced-setup a targets caps
 
-    next-of : stops z ≡ false → (p : ℕ) → p < m → Priced z p (held (z .records) n p) (price onwards p) (before onwards p)
+    none-fit : overridesFit [] ≡ true
+    none-fit = all-give _ 8 (λ p l. refl)
+
+    next-of : stops z ≡ false → (p : ℕ) → p < m
+        → Priced z override.None p (held (z .records) n p) (price onwards p) (before onwards p) (markNext [] z p)
     unfolding reduced
     next-of e p hp =
-        rw (
-          price-anew z (priceNext z) (beforeNext z) p (omega (arith, hm)),
-          before-anew z (priceNext z) (beforeNext z) p (omega (arith, hm)),
-        ) (next z (rw (reduced-setup a targets caps) (limits-take t revised-within)) p hp (start-some p hp) e)
+        rw (on-price p (omega (arith, hm)), on-before p (omega (arith, hm)))
+        (next z (rw (reduced-setup a targets caps) (limits-take t revised-within)) [] none-fit p hp (start-some p hp) e)
 
     next-before : stops z ≡ false → (p : ℕ) → p < m → (s : Bool) → ltb (targetOf t p) (held (z .records) n p) ≡ s
         → before onwards p ≡ startOf (setup a) p
@@ -294,8 +313,9 @@ module _ (a : Auction) (targets caps : List Tranches) where
       fell = λ p hp o l. let x = next-of e p hp .fell (omega (arith, target-z p)) in omega (arith, x);
       none = λ p h l.
           let s = L .no-item p h l in
-          let y = next-none z (rw (reduced-setup a targets caps) (limits-take t revised-within)) p (price-is a targets caps p l ∙ s .2) (before-is a targets caps p l ∙ s .2) in
-          (price-anew z (priceNext z) (beforeNext z) p l ∙ y .0, before-anew z (priceNext z) (beforeNext z) p l ∙ y .1);
+          let y = next-none z (rw (reduced-setup a targets caps) (limits-take t revised-within)) [] p (price-is a targets caps p l ∙ s .2) (before-is a targets caps p l ∙ s .2) in
+          (on-price p l ∙ y .0, on-before p l ∙ y .1);
+      no-mark = λ p l. mark-anew priced (markNext [] z) p l ∙ mark-none z [] p refl;
       phase = later-open (with bidsOpen onwards) (λ q. omega (arith, cut-second))
           (omega (arith, some-excess, excess-same z (with bidsOpen onwards) (onward-setup ∙ sym (reduced-setup a targets caps)) refl refl)) (λ _. kept-none);
     }
@@ -320,7 +340,7 @@ module _ (a : Auction) (targets caps : List Tranches) where
     unfolding cutBack reduced
     cut-each P f g = by (stops z) refl
       where
-        by : (s : Bool) → stops z ≡ s → P (cond s z (opensAt (z .round) z))
+        by : (s : Bool) → stops z ≡ s → P (cond s z (opensAt [] (z .round) z))
         by true e = f e
         by false e = g e
 
@@ -341,15 +361,16 @@ module _ (a : Auction) (targets caps : List Tranches) where
     pub cut-only : CutOnly a (cutBack a targets caps) targets caps
     unfolding reduced revised
     cut-only =
-        cut-each (λ y. CutOnly a y targets caps) (λ e. only stopped (z .lanes) (inr refl) (reduced-setup a targets caps) refl)
-        (λ e. only bidsOpen onwards (inl refl) onward-setup (excess-same z (with bidsOpen onwards) (onward-setup ∙ sym (reduced-setup a targets caps)) refl refl))
+        cut-each (λ y. CutOnly a y targets caps) (λ e. only stopped (z .lanes) (inr refl) (ends e) refl)
+        (λ e. only bidsOpen onwards (inl refl) (goes-on e) (excess-same z (with bidsOpen onwards) (onward-setup ∙ sym (reduced-setup a targets caps)) refl refl))
       where
-        only : (ph : ℕ) (ls : List Lane) → (ph ≡ bidsOpen) ⊎ (ph ≡ stopped) → setup (with ph ls) ≡ t → excess (with ph ls) ≡ excess z
+        only : (ph : ℕ) (ls : List Lane) → (ph ≡ bidsOpen) ⊎ (ph ≡ stopped) → Meets ph ls → excess (with ph ls) ≡ excess z
             → CutOnly a (with ph ls) targets caps
-        only ph ls h s x = record {
-          settings = s;
+        only ph ls h M x = record {
+          settings = M .settings;
           round = refl;
           cards = refl;
+          marks = M .no-mark;
           phase = h;
           going = λ b p hb hp. ap goingIn (record-of a targets caps b p hb hp);
           denied = λ b p hb hp. ap deniedIn (record-of a targets caps b p hb hp);

@@ -91,6 +91,8 @@ module _ (a : Auction) (S : Stands a) (L : Long a) (o : isOpen a ≡ true) (b : 
     fell = S .fell;
     kept = S .kept;
     no-price = S .no-price;
+    marks = S .marks;
+    no-mark = S .no-mark;
     exits = S .exits;
     no-exit = S .no-exit;
     caps = S .caps;

@@ -9,6 +9,7 @@ use borrow.Author.Tests.{eqb-true, eqb-false, eq-eqb, ne-eqb}
 use lib.ListN.{length, getD, replicate}
 use lib.Dec.{eqb, leb}
 use Rattle.rules.specs.declared.Tranches.{Tranches}
+use Rattle.rules.specs.declared.Chosen.{Chosen}
 use Rattle.rules.specs.declared.Settings.{Settings}
 use Rattle.rules.specs.declared.Auction.{Auction}
 use Rattle.rules.specs.declared.Outbid.{Outbid}
@@ -16,14 +17,14 @@ use Rattle.rules.specs.declared.Calculated.{Calculated}
 use Rattle.rules.specs.declared.Calculation.the-variants as calculation
 use Rattle.rules.specs.Answers.{outcome, said, answerOf, calculationSaid, unlessRefused, closed, stopped}
 use Rattle.rules.specs.Settings.{settingsFit, setup, setupOf}
-use Rattle.laws.specs.OneCall.{StandsIn, RefusedSame, FiledOnly, CutOnly, CutPrice}
+use Rattle.laws.specs.OneCall.{StandsIn, RefusedSame, FiledOnly, PriceBy, CutOnly, CutPrice}
 use Rattle.rules.specs.Held.{excess}
-use Rattle.rules.specs.Round.{drawFits, afterStep2, afterStep4, atRest, onward, stops, settled, calculated}
+use Rattle.rules.specs.Round.{drawFits, overrideFor, overridesFit, afterStep2, afterStep4, atRest, onward, stops, settled, calculated}
 use Rattle.rules.specs.Cutback.{mayCut, cutBack, suggestedVolume, suggestedNumber}
 use Rattle.rules.specs.Layout.{stateLength, stored, loaded, allZero}
 use Rattle.rules.specs.Legal.{isOpen, stands}
 use Rattle.rules.specs.Card.{readCard, cardOf, writeNumber, writeCard}
-use Rattle.rules.specs.Calls.{opened, openNumber, openCall, ofState, cardNumber, fileNumber, bidderOn, afterCard, fileCall, countNumber, drawNumber, calculateNumber, calculationDone, calculateCall, cutNumber, cutbackNumber, cutbackCall, reportNumber, resultNumber, returnNumber, returnCall}
+use Rattle.rules.specs.Calls.{opened, openNumber, openCall, ofState, cardNumber, fileNumber, bidderOn, afterCard, fileCall, countNumber, roundNumber, calculateNumber, calculationDone, calculateCall, cutNumber, cutbackNumber, cutbackCall, reportNumber, resultNumber, returnNumber, returnCall}
 use Rattle.rules.proofs.Lists.{clash, all-give, all-take}
 use Rattle.rules.specs.Stands.{Stands}
 use Rattle.rules.proofs.Legal.{stands-take, stands-give}
@@ -33,7 +34,7 @@ use Rattle.laws.proofs.Filing.{slot-filed, slot-other, bit-filed, bit-o
 use Rattle.rules.proofs.Storing.{stored-long, loaded-long, loaded-bits, stored-bytes}
 use Rattle.rules.proofs.Fitting.{phase-small, standing-loads}
 use Rattle.laws.proofs.Calling.{granted, opens, opens-loads, opens-setup, read-long, file-take, files, files-loads}
-use Rattle.laws.proofs.Round.{round-stands, round-long}
+use Rattle.laws.proofs.Round.{round-stands, round-long, round-by}
 use Rattle.laws.proofs.Cutback.{cut-stands, cut-long, cut-only, cut-price}
 
 -- ---- standing
@@ -73,31 +74,31 @@ module _ (s : List ℕ) (l : length s ≡ stateLength) (z : allZero s ≡ true) 
 
   -- "all zero as issued": it does not stand, bids are not open, and the auction is not closed
   pub issued-not-standing : (stands (loaded s) ≡ false) × ((c : List ℕ) → fileNumber s c ≡ 3) × (countNumber s ≡ 3)
-      × ((draw : List ℕ) → calculateNumber s draw ≡ 3) × ((targets caps : List Tranches) → cutbackNumber s targets caps ≡ 3)
+      × ((draw : List ℕ) (os : List Chosen) → calculateNumber s draw os ≡ 3) × ((targets caps : List Tranches) → cutbackNumber s targets caps ≡ 3)
       × ((b : ℕ) → reportNumber s b ≡ 3) × (resultNumber s ≡ 16)
   issued-not-standing =
       let e = eq-eqb (length s) stateLength l in
-      (issued-by (stands (loaded s)) refl, λ c. rw (e, z), rw (e, z), λ draw. rw (e, z), λ targets caps. rw (e, z), λ b. rw (e, z), rw (e, z))
+      (issued-by (stands (loaded s)) refl, λ c. rw (e, z), rw (e, z), λ draw os. rw (e, z), λ targets caps. rw (e, z), λ b. rw (e, z), rw (e, z))
 
 -- ---- astray
 
 -- a state of the wrong length is answered 1 by every call
 pub wrong-length : (s : List ℕ) → (length s ≡ stateLength → ⊥) → ((x : Settings) → openNumber s x ≡ 1) × ((c : List ℕ) → fileNumber s c ≡ 1)
-    × (countNumber s ≡ 1) × ((draw : List ℕ) → calculateNumber s draw ≡ 1)
+    × (countNumber s ≡ 1) × ((draw : List ℕ) (os : List Chosen) → calculateNumber s draw os ≡ 1)
     × ((targets caps : List Tranches) → cutbackNumber s targets caps ≡ 1) × ((b : ℕ) → reportNumber s b ≡ 1) × (resultNumber s ≡ 1)
     × (returnNumber s ≡ 1)
 wrong-length s l =
     let e = ne-eqb (length s) stateLength l in
-    (λ x. rw e, λ c. rw e, rw e, λ draw. rw e, λ targets caps. rw e, λ b. rw e, rw e, rw e)
+    (λ x. rw e, λ c. rw e, rw e, λ draw os. rw e, λ targets caps. rw e, λ b. rw e, rw e, rw e)
 
 -- "state neither issued nor standing": 2, to an opening 17, and to a return nothing
 pub neither : (s : List ℕ) → length s ≡ stateLength → allZero s ≡ false → stands (loaded s) ≡ false
     → ((x : Settings) → openNumber s x ≡ 17) × ((c : List ℕ) → fileNumber s c ≡ 2) × (countNumber s ≡ 2)
-    × ((draw : List ℕ) → calculateNumber s draw ≡ 2) × ((targets caps : List Tranches) → cutbackNumber s targets caps ≡ 2)
+    × ((draw : List ℕ) (os : List Chosen) → calculateNumber s draw os ≡ 2) × ((targets caps : List Tranches) → cutbackNumber s targets caps ≡ 2)
     × ((b : ℕ) → reportNumber s b ≡ 2) × (resultNumber s ≡ 2) × (returnNumber s ≡ 0)
 neither s l z n =
     let e = eq-eqb (length s) stateLength l in
-    (λ x. rw (e, z), λ c. rw (e, z, n), rw (e, z, n), λ draw. rw (e, z, n), λ targets caps. rw (e, z, n), λ b. rw (e, z, n), rw (e, z, n), rw e)
+    (λ x. rw (e, z), λ c. rw (e, z, n), rw (e, z, n), λ draw os. rw (e, z, n), λ targets caps. rw (e, z, n), λ b. rw (e, z, n), rw (e, z, n), rw e)
 
 -- ---- refused
 
@@ -117,7 +118,7 @@ unfolding openCall fileCall calculateCall cutbackCall returnCall writeCard
 refused-same s = record {
   opening = λ x. unless-same (openNumber s x) (stored (opened (setupOf x))) s;
   filing = λ c. unless-same (fileNumber s c) (stored (afterCard c (loaded s))) s;
-  calculating = λ draw. calculate-same s (calculated (loaded s) draw) (calculateNumber s draw) (eqb (calculateNumber s draw) 0);
+  calculating = λ draw os. calculate-same s (calculated (loaded s) draw os) (calculateNumber s draw os) (eqb (calculateNumber s draw os) 0);
   cutting = λ targets caps. unless-same (cutbackNumber s targets caps) (stored (cutBack (loaded s) targets caps)) s;
   returning = unless-same (returnNumber s) (replicate stateLength 0) s;
   writing = λ m b r ls. unless-same (writeNumber (length s) m b r ls) (cardOf m b r ls) s;
@@ -132,9 +133,9 @@ pub file-refused : (s c : List ℕ) → (fileNumber s c ≡ 0 → ⊥) → fileC
 unfolding fileCall
 file-refused s c h = rw (ne-eqb (fileNumber s c) 0 h)
 
-pub calculate-refused : (s draw : List ℕ) → (calculateNumber s draw ≡ 0 → ⊥) → calculateCall s draw .bytes ≡ s
+pub calculate-refused : (s draw : List ℕ) (os : List Chosen) → (calculateNumber s draw os ≡ 0 → ⊥) → calculateCall s draw os .bytes ≡ s
 unfolding calculateCall
-calculate-refused s draw h = rw (ne-eqb (calculateNumber s draw) 0 h)
+calculate-refused s draw os h = rw (ne-eqb (calculateNumber s draw os) 0 h)
 
 pub cutback-refused : (s : List ℕ) (targets caps : List Tranches) → (cutbackNumber s targets caps ≡ 0 → ⊥) → cutbackCall s targets caps .bytes ≡ s
 unfolding cutbackCall
@@ -237,56 +238,66 @@ module _ (s : List ℕ) (S : StandsIn s) (c : List ℕ) where
 
 -- ---- calculate
 
-no-cards : (a : Auction) (o : Outbid) (t u : Bool)
-    → cond t (atRest closed a o) (cond u (atRest stopped a o) (onward (atRest closed a o))) .cards .filed ≡ 0
-no-cards a o true u = refl
-no-cards a o false true = refl
-no-cards a o false false = refl
+no-cards : (a : Auction) (os : List Chosen) (o : Outbid) (t u : Bool)
+    → cond t (atRest closed a o) (cond u (atRest stopped a o) (onward os (atRest closed a o))) .cards .filed ≡ 0
+no-cards a os o true u = refl
+no-cards a os o false true = refl
+no-cards a os o false false = refl
 
 -- no cards are left of a round
-settled-filed : (a : Auction) (o : Outbid) → settled a o .cards .filed ≡ 0
-settled-filed a o = no-cards a o (eqb (excess (atRest closed a o)) 0) (stops (atRest closed a o))
+settled-filed : (a : Auction) (os : List Chosen) (o : Outbid) → settled a os o .cards .filed ≡ 0
+settled-filed a os o = no-cards a os o (eqb (excess (atRest closed a o)) 0) (stops (atRest closed a o))
 
-round-filed : (a : Auction) (draw : List ℕ) → calculated a draw .auction .cards .filed ≡ 0
+round-filed : (a : Auction) (draw : List ℕ) (os : List Chosen) → calculated a draw os .auction .cards .filed ≡ 0
 unfolding calculated
-round-filed a draw = settled-filed a (afterStep4 a draw (afterStep2 a draw .places))
+round-filed a draw os = settled-filed a os (afterStep4 a draw (afterStep2 a draw .places))
 
-module _ (s : List ℕ) (S : StandsIn s) (draw : List ℕ) where
-  -- a calculation accepted: bids are open, and the draw is in order
-  pub calculate-accepts : calculateNumber s draw ≡ 0 → (isOpen (loaded s) ≡ true) × (drawFits (loaded s .terms .bidders) draw ≡ true)
+module _ (s : List ℕ) (S : StandsIn s) (draw : List ℕ) (os : List Chosen) where
+  -- a calculation accepted: bids are open, the draw is in order, and every override given is within its limits
+  pub calculate-accepts : calculateNumber s draw os ≡ 0
+      → (isOpen (loaded s) ≡ true) × (drawFits (loaded s .terms .bidders) draw ≡ true) × (overridesFit os ≡ true)
   calculate-accepts e =
-      let o = granted (isOpen (loaded s)) _ 3 (omega arith) (sym (of-standing s S 3 (drawNumber draw)) ∙ e) in
-      (o .0, granted (drawFits (loaded s .terms .bidders) draw) 0 14 (omega arith) (o .1) .0)
+      let o = granted (isOpen (loaded s)) _ 3 (omega arith) (sym (of-standing s S 3 (roundNumber draw os)) ∙ e) in
+      let d = granted (drawFits (loaded s .terms .bidders) draw) _ 14 (omega arith) (o .1) in
+      (o .0, d .0, granted (overridesFit os) 0 19 (omega arith) (d .1) .0)
 
-  module _ (e : calculateNumber s draw ≡ 0) where
-    round-stood : Stands (calculated (loaded s) draw .auction)
+  module _ (e : calculateNumber s draw os ≡ 0) where
+    round-stood : Stands (calculated (loaded s) draw os .auction)
     round-stood =
         let o = calculate-accepts e in
-        round-stands (loaded s) draw (stood s S) (loaded-long s) (o .0) (o .1) (bids-accepted (loaded s) (stood s S) (o .0))
+        round-stands (loaded s) draw os (stood s S) (loaded-long s) (o .0) (o .1) (o .2) (bids-accepted (loaded s) (stood s S) (o .0))
 
-    round-loads : loaded (stored (calculated (loaded s) draw .auction)) ≡ calculated (loaded s) draw .auction
+    round-loads : loaded (stored (calculated (loaded s) draw os .auction)) ≡ calculated (loaded s) draw os .auction
     round-loads =
         let o = calculate-accepts e in
-        standing-loads (calculated (loaded s) draw .auction) round-stood
-        (round-long (loaded s) draw (stood s S) (loaded-long s) (o .0) (o .1) (bids-accepted (loaded s) (stood s S) (o .0)))
-        (omega (arith, round-filed (loaded s) draw))
+        standing-loads (calculated (loaded s) draw os .auction) round-stood
+        (round-long (loaded s) draw os (stood s S) (loaded-long s) (o .0) (o .1) (o .2) (bids-accepted (loaded s) (stood s S) (o .0)))
+        (omega (arith, round-filed (loaded s) draw os))
 
-    -- a calculation accepted: the bytes hold the auction that the round leaves
-    pub calculate-loaded : loaded (calculateCall s draw .bytes) ≡ calculated (loaded s) draw .auction
+    -- a calculation accepted: the bytes hold the auction that the round leaves,
+    pub calculate-loaded : loaded (calculateCall s draw os .bytes) ≡ calculated (loaded s) draw os .auction
     unfolding calculateCall
     calculate-loaded = rw e round-loads
 
-  calculate-by : (t : Bool) → eqb (calculateNumber s draw) 0 ≡ t
-      → StandsIn (cond t (calculationDone (calculated (loaded s) draw)) (outcome (calculation.Refused (calculateNumber s draw)) s) .bytes)
+    -- each price worked out by the manager's decrement where one is given, else by the table's
+    pub calculate-by-whom : (p : ℕ) → p < loaded s .terms .products
+        → PriceBy (loaded s) (loaded (calculateCall s draw os .bytes)) (overrideFor os p) p
+    calculate-by-whom =
+        let o = calculate-accepts e in
+        rw calculate-loaded
+        (round-by (loaded s) draw os (stood s S) (loaded-long s) (o .0) (o .1) (o .2) (bids-accepted (loaded s) (stood s S) (o .0)))
+
+  calculate-by : (t : Bool) → eqb (calculateNumber s draw os) 0 ≡ t
+      → StandsIn (cond t (calculationDone (calculated (loaded s) draw os)) (outcome (calculation.Refused (calculateNumber s draw os)) s) .bytes)
   calculate-by true e =
-      let k = eqb-true (calculateNumber s draw) 0 e in
-      stored-stands (calculated (loaded s) draw .auction) (round-stood k) (round-loads k)
+      let k = eqb-true (calculateNumber s draw os) 0 e in
+      stored-stands (calculated (loaded s) draw os .auction) (round-stood k) (round-loads k)
   calculate-by false e = S
 
   -- a round calculated or refused leaves a standing state
-  pub calculate-stands : StandsIn (calculateCall s draw .bytes)
+  pub calculate-stands : StandsIn (calculateCall s draw os .bytes)
   unfolding calculateCall
-  calculate-stands = calculate-by (eqb (calculateNumber s draw) 0) refl
+  calculate-stands = calculate-by (eqb (calculateNumber s draw os) 0) refl
 
 -- ---- cutback
 

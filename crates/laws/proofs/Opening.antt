@@ -14,7 +14,7 @@ use Rattle.rules.specs.Parts.{lane, noLane, laneAt, seat, noSeat, seatAt}
 use Rattle.rules.specs.Settings.{noItem, itemIn, setup, withinLimits, targetOf, capOf, startOf, initialOf}
 use Rattle.rules.specs.Card.{noLine}
 use Rattle.rules.specs.Held.{nothing, retainedIn, heldIn, keptIn, recordAt, held, place, freeOf}
-use Rattle.rules.specs.Bid.{recordOf, priceAt, beforeAt, onProduct, hasFiled, slotOf}
+use Rattle.rules.specs.Bid.{recordOf, priceAt, beforeAt, markAt, onProduct, hasFiled, slotOf}
 use Rattle.rules.specs.Legal.{keptOn, slotStands, phaseStands}
 use Rattle.rules.specs.Calls.{opened}
 use Rattle.rules.proofs.Sums.{sum-ext, sum-zero}
@@ -39,7 +39,7 @@ pub opened-setup : (t : Setup) → length (t .item) ≡ 8 → length (t .eligibi
 unfolding opened
 opened-setup t i e =
     let x = list-is (λ p. itemIn (laneAt (opened t) p)) noItem 8 (t .item) i (λ p h.
-    sym (ap itemIn (list-at (λ p. lane (targetOf t p) (capOf t p) (startOf t p) (startOf t p) (startOf t p)) noLane 8 p h))) in
+    sym (ap itemIn (list-at (λ p. lane (targetOf t p) (capOf t p) (startOf t p) (startOf t p) (startOf t p) 0) noLane 8 p h))) in
     let y = list-is (λ b. seatAt (opened t) b .initial) (tranches 0) 32 (t .eligibility) e (λ b h.
     sym (ap (λ s. s .initial) (list-at (λ b. seat (initialOf t b) (initialOf t b)) noSeat 32 b h))) in
     rw (← x, ← y) refl
@@ -50,6 +50,11 @@ unfolding opened
 opened-free t b h =
     let e = list-at (λ b. seat (initialOf t b) (initialOf t b)) noSeat 32 b h in
     ap (λ s. s .free .0) e ∙ sym (initial-is (opened t) b h ∙ ap (λ s. s .initial .0) e)
+
+-- no price has been worked out
+pub opened-unmarked : (t : Setup) (p : ℕ) → p < 8 → markAt (opened t) p ≡ 0
+unfolding opened
+opened-unmarked t p h = ap (λ l. l .mark) (list-at (λ p. lane (targetOf t p) (capOf t p) (startOf t p) (startOf t p) (startOf t p) 0) noLane 8 p h)
 
 module _ (t : Setup) (w : withinLimits t ≡ true) (i : length (t .item) ≡ 8) (e : length (t .eligibility) ≡ 32) where
   no-record : (k : ℕ) → recordAt (opened t .records) k ≡ nothing
@@ -68,11 +73,11 @@ module _ (t : Setup) (w : withinLimits t ≡ true) (i : length (t .item) ≡ 8) 
 
   at-start : (p : ℕ) → p < 8 → priceAt (opened t) p ≡ startOf t p
   unfolding opened
-  at-start p h = ap (λ l. l .price) (list-at (λ p. lane (targetOf t p) (capOf t p) (startOf t p) (startOf t p) (startOf t p)) noLane 8 p h)
+  at-start p h = ap (λ l. l .price) (list-at (λ p. lane (targetOf t p) (capOf t p) (startOf t p) (startOf t p) (startOf t p) 0) noLane 8 p h)
 
   before-start : (p : ℕ) → p < 8 → beforeAt (opened t) p ≡ startOf t p
   unfolding opened
-  before-start p h = ap (λ l. l .before) (list-at (λ p. lane (targetOf t p) (capOf t p) (startOf t p) (startOf t p) (startOf t p)) noLane 8 p h)
+  before-start p h = ap (λ l. l .before) (list-at (λ p. lane (targetOf t p) (capOf t p) (startOf t p) (startOf t p) (startOf t p) 0) noLane 8 p h)
 
   no-line : (b p : ℕ) → p < 8 → onProduct (slotOf (opened t) b) p ≡ noLine
   unfolding opened
@@ -107,6 +112,8 @@ module _ (t : Setup) (w : withinLimits t ≡ true) (i : length (t .item) ≡ 8) 
         fell = λ p h o k. omega (arith, none-held p);
         kept = λ p h k. omega (arith, none-kept p);
         no-price = λ p h l. omega (arith, L .no-item p h l, at-start p l, before-start p l);
+        marks = λ p h k. absurd (let z : ⊥ = omega (arith, opened-unmarked t p (omega (arith, L .products))) in z);
+        no-mark = λ p h l. opened-unmarked t p l;
         exits = λ b p hb hp h. let e : retainedIn (recordOf (opened t) b p) ≡ 0 = ap retainedIn (no-record (place b p)) in omega arith;
         no-exit = λ b p hb hp h. rw (no-record (place b p)) refl;
         caps = λ b p hb hp. rw (no-record (place b p)) (omega arith);

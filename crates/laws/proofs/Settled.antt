@@ -1,5 +1,5 @@
 -- Step 5: closed, stopped, or the next round at the next prices. Assumes nothing.
-use mathlib.Core.Path.{_≡_, refl, sym, _∙_, ap, subst}
+use mathlib.Core.Path.{_≡_, refl, sym, _∙_, ap, ap₂, subst}
 use mathlib.Core.Bool.{Bool, true, false, cond}
 use mathlib.Core.List.{List}
 use Prim.Native.Nat.{ℕ, _+_, _*_, _-_, _/_, _%_, _^_, _≤_, _<_}
@@ -11,19 +11,21 @@ use lib.Dec.{eqb, ltb}
 use Rattle.rules.specs.declared.Record.{Record}
 use Rattle.rules.specs.declared.Lane.{Lane}
 use Rattle.rules.specs.declared.Outbid.{Outbid}
+use Rattle.rules.specs.declared.Chosen.{Chosen}
 use Rattle.rules.specs.declared.Auction.{Auction}
 use Rattle.rules.specs.Count.{sumUpTo}
 use Rattle.rules.specs.Answers.{bidsOpen, closed, stopped}
 use Rattle.rules.specs.Units.{tranches}
-use Rattle.rules.specs.Parts.{noLane, withPhase, withRound, withLanes, withPrices}
+use Rattle.rules.specs.Parts.{noLane, withPhase, withRound, withLanes, withPrices, withMarks}
 use Rattle.rules.specs.Settings.{setup, targetOf, capOf, startOf, initialOf}
 use Rattle.rules.specs.Card.{noLine, lineZero}
 use Rattle.rules.specs.Held.{nothing, goingIn, deniedIn, retainedIn, exitIn, heldIn, keptIn, recordAt, held, aboveZero, standingOf, freeOf, eligibility, excess}
-use Rattle.rules.specs.Bid.{bidIn, recordOf, priceAt, beforeAt, onProduct, slotOf, bidOn}
+use Rattle.rules.specs.Bid.{oneIf, bidIn, recordOf, priceAt, beforeAt, onProduct, slotOf, bidOn}
+use Rattle.rules.specs.Price.{decrementFor, fallen, isGiven, decrementBy}
 use Rattle.rules.specs.Accept.{placeAt, heldOf, keptOf, column, rowOf}
-use Rattle.rules.specs.Round.{atRest, priceNext, beforeNext, onward, atBottom, stops, settled}
+use Rattle.rules.specs.Round.{overrideFor, overridesFit, booked, atRest, priceNext, markNext, beforeNext, onward, atBottom, stops, settled}
 use Rattle.rules.specs.Legal.{keptOn, recordZero, slotStands, phaseStands}
-use Rattle.rules.proofs.Sums.{sum-ext, sum-le, sum-ge, sum-add}
+use Rattle.rules.proofs.Sums.{sum-ext, sum-le, sum-ge, sum-add, sum-zero}
 use Rattle.rules.proofs.Lists.{clash, both, all-give, list-at, list-long}
 use Rattle.rules.proofs.Signed.{above-zero}
 use Rattle.rules.proofs.Legal.{later-open}
@@ -31,9 +33,9 @@ use Rattle.rules.specs.Stands.{Stands, Long}
 use Rattle.rules.proofs.Places.{worthOf}
 use Rattle.laws.proofs.Made.{NoRecord}
 use Rattle.laws.proofs.Booked.{Booked}
-use Rattle.laws.specs.OneCall.{PriceAfter}
-use Rattle.laws.proofs.Prices.{cond-false, Priced, next, next-none}
-use Rattle.rules.proofs.Parts.{excess-same, price-anew, before-anew, prices-setup, free-anew, free-setup}
+use Rattle.laws.specs.OneCall.{PriceAfter, PriceBy}
+use Rattle.laws.proofs.Prices.{cond-false, Priced, next, next-none, mark-low}
+use Rattle.rules.proofs.Parts.{excess-same, price-anew, before-anew, prices-setup, mark-anew, price-stays, before-stays, marks-setup, free-anew, free-setup}
 
 -- where a round closes: no award above a target, the target where it was filled, and for each bidder no less than it bid
 pub record Closes (a z : Auction) : Type 0 where
@@ -48,7 +50,7 @@ zero-back : (r : Record) → NoRecord r → recordZero r ≡ true
 zero-back r N =
     both (eq-eqb _ _ (N .going)) (both (eq-eqb _ _ (N .denied)) (both (eq-eqb _ _ (N .retained)) (eq-eqb _ _ (N .exit))))
 
-module _ (a : Auction) (o : Outbid) where
+module _ (a : Auction) (os : List Chosen) (o : Outbid) where
   abbrev m : ℕ
   m = a .terms .products
 
@@ -61,7 +63,7 @@ module _ (a : Auction) (o : Outbid) where
   abbrev rest : Auction
   rest = atRest closed a o
 
-  -- the book o in some phase and round, at the prices of some lanes
+  -- the book o in some phase and round, at the prices and with the marks of some lanes
   abbrev with : ℕ → ℕ → List Lane → Auction
   with ph rd ls = withPhase (withRound (withLanes rest ls) rd) ph
 
@@ -71,35 +73,60 @@ module _ (a : Auction) (o : Outbid) where
   abbrev before : List Lane → ℕ → ℕ
   before ls p = getD ls p noLane .before
 
-  abbrev onwards : List Lane
-  onwards = withPrices rest (priceNext rest) (beforeNext rest) .lanes
+  abbrev mark : List Lane → ℕ → ℕ
+  mark ls p = getD ls p noLane .mark
 
-  -- at rest the settings are those of before
+  abbrev priced : Auction
+  priced = withPrices rest (priceNext os rest) (beforeNext rest)
+
+  abbrev onwards : List Lane
+  onwards = withMarks priced (markNext os rest) .lanes
+
+  -- at rest the settings and the prices are those of before, and there are no marks
   rest-setup : setup rest ≡ setup a
-  rest-setup = free-setup a _
+  rest-setup = marks-setup (booked a o) (λ p. 0) ∙ free-setup a _
+
+  rest-price : (p : ℕ) → p < 8 → priceAt rest p ≡ priceAt a p
+  rest-price = price-stays (booked a o) (λ p. 0)
+
+  rest-before : (p : ℕ) → p < 8 → beforeAt rest p ≡ beforeAt a p
+  rest-before = before-stays (booked a o) (λ p. 0)
+
+  rest-mark : (p : ℕ) → p < 8 → mark (rest .lanes) p ≡ 0
+  rest-mark = mark-anew (booked a o) (λ p. 0)
+
+  -- in the next round they are the next ones
+  on-price : (p : ℕ) → p < 8 → price onwards p ≡ priceNext os rest p
+  on-price p h = price-stays priced (markNext os rest) p h ∙ price-anew rest (priceNext os rest) (beforeNext rest) p h
+
+  on-before : (p : ℕ) → p < 8 → before onwards p ≡ beforeNext rest p
+  on-before p h = before-stays priced (markNext os rest) p h ∙ before-anew rest (priceNext os rest) (beforeNext rest) p h
+
+  on-mark : (p : ℕ) → p < 8 → mark onwards p ≡ markNext os rest p
+  on-mark = mark-anew priced (markNext os rest)
 
   settled-by : (P : Auction → Type 0) (x y : Bool)
-      → (x ≡ true → P (with closed (a .round) (a .lanes)))
-      → (x ≡ false → y ≡ true → P (with stopped (a .round) (a .lanes)))
+      → (x ≡ true → P (with closed (a .round) (rest .lanes)))
+      → (x ≡ false → y ≡ true → P (with stopped (a .round) (rest .lanes)))
       → (x ≡ false → y ≡ false → P (with bidsOpen (a .round + 1) onwards))
-      → P (cond x rest (cond y (atRest stopped a o) (onward rest)))
+      → P (cond x rest (cond y (atRest stopped a o) (onward os rest)))
   settled-by P true y f g h = f refl
   settled-by P false true f g h = g refl refl
   settled-by P false false f g h = h refl refl
 
   -- what holds of all three ends holds of the settled auction
   settled-each : (P : Auction → Type 0)
-      → (excess rest ≡ 0 → P (with closed (a .round) (a .lanes)))
-      → (0 < excess rest → stops rest ≡ true → P (with stopped (a .round) (a .lanes)))
+      → (excess rest ≡ 0 → P (with closed (a .round) (rest .lanes)))
+      → (0 < excess rest → stops rest ≡ true → P (with stopped (a .round) (rest .lanes)))
       → (0 < excess rest → stops rest ≡ false → P (with bidsOpen (a .round + 1) onwards))
-      → P (settled a o)
+      → P (settled a os o)
   settled-each P f g h =
       settled-by P (eqb (excess rest) 0) (stops rest) (λ e. f (eqb-true _ _ e)) (λ e. g (some e)) (λ e. h (some e))
     where
       some : eqb (excess rest) 0 ≡ false → 0 < excess rest
       some e = let d = eqb-false (excess rest) 0 e in omega (arith, d)
 
-  module _ (S : Stands a) (B : Booked a o) where
+  module _ (S : Stands a) (B : Booked a o) (O : overridesFit os ≡ true) where
     -- the records, and their sums, are those of the book
     at : (b p : ℕ) → b < n → p < m → recordAt (rest .records) (b * 8 + p) ≡ placeAt (o .places) (b * 8 + p) .holds
     at b p hb hp = list-at (λ k. placeAt (o .places) k .holds) nothing 256 (b * 8 + p) (omega (arith, S .limits .products, S .limits .bidders))
@@ -129,7 +156,20 @@ module _ (a : Auction) (o : Outbid) where
             list-at (λ p. getD (replicate 256 noLine) (b * 8 + p) noLine) noLine 8 p hp
             ∙ getD-replicate 256 (b * 8 + p) noLine noLine (omega arith))
 
-    -- what the phase, round and prices at the end have to meet
+    -- past the bidders and products in use nothing is recorded
+    bare : (k : ℕ) → k < 256 → (k / 8 < n → m ≤ k % 8) → NoRecord (recordAt (rest .records) k)
+    bare k hk out =
+        let e : k ≡ k / 8 * 8 + k % 8 = omega arith in
+        let N = subst (λ k. NoRecord (placeAt (o .places) k .holds)) (sym e) (B .bare (k / 8) (k % 8) (omega arith) (omega arith) out) in
+        rw (list-at (λ k. placeAt (o .places) k .holds) nothing 256 k hk) N
+
+    none-held : (p : ℕ) → m ≤ p → p < 8 → held (rest .records) n p ≡ 0
+    none-held p h l =
+        sum-ext (λ b. heldIn (recordOf rest b p)) (λ b. 0) n (λ b hb.
+        let N = bare (b * 8 + p) (omega (arith, S .limits .bidders)) (λ _. omega arith) in
+        omega (arith, N .going, N .denied, N .retained)) ∙ sum-zero n
+
+    -- what the phase, round, prices and marks at the end have to meet
     record Meets (ph rd : ℕ) (ls : List Lane) : Type 0 where
       settings : setup (with ph rd ls) ≡ setup a
       some-round : 1 ≤ rd
@@ -138,16 +178,12 @@ module _ (a : Auction) (o : Outbid) where
       fell : (p : ℕ) → p < m → eqb ph bidsOpen ≡ true → goal p < held (rest .records) n p → price ls p < before ls p
       same : (p : ℕ) → p < m → held (rest .records) n p ≡ goal p → (price ls p ≡ priceAt a p) × (before ls p ≡ beforeAt a p)
       none : (p : ℕ) → m ≤ p → p < 8 → (price ls p ≡ 0) × (before ls p ≡ 0)
+      marks : (p : ℕ) → p < m → 0 < mark ls p
+          → (mark ls p ≡ 1) × (eqb ph bidsOpen ≡ true) × (2 ≤ rd) × (goal p < held (rest .records) n p)
+      no-mark : (p : ℕ) → m ≤ p → p < 8 → mark ls p ≡ 0
       phase : phaseStands (with ph rd ls) ≡ true
 
     module _ (ph rd : ℕ) (ls : List Lane) (M : Meets ph rd ls) where
-      -- past the bidders and products in use the records are 0
-      zero-past : (k : ℕ) → k < 256 → (k / 8 < n → m ≤ k % 8) → recordZero (recordAt (rest .records) k) ≡ true
-      zero-past k hk out =
-          let e : k ≡ k / 8 * 8 + k % 8 = omega arith in
-          let N = subst (λ k. NoRecord (placeAt (o .places) k .holds)) (sym e) (B .bare (k / 8) (k % 8) (omega arith) (omega arith) out) in
-          rw (list-at (λ k. placeAt (o .places) k .holds) nothing 256 k hk) (zero-back _ N)
-
       -- the exit prices are those of the book, at prices that have not moved
       exits-of : (b p : ℕ) → b < n → p < m → 0 < retainedIn (recordOf rest b p)
           → (price ls p < exitIn (recordOf rest b p)) × (exitIn (recordOf rest b p) ≤ before ls p)
@@ -178,13 +214,15 @@ module _ (a : Auction) (o : Outbid) where
             let v = M .same p hp (held-is p hp ∙ k .1) in
             (omega (arith, k, v), held-is p hp ∙ k .1 ∙ sym (target p));
         no-price = M .none;
+        marks = λ p hp h. let x = M .marks p hp h in (x .0, x .1, x .2, omega (arith, x .3, target p));
+        no-mark = M .no-mark;
         exits = exits-of;
         no-exit = λ b p hb hp e.
             let q = at b p hb hp in
             ap exitIn q ∙ B .no-exit b p hb hp (sym (ap retainedIn q) ∙ e);
         caps = λ b p hb hp. omega (arith, ap heldIn (at b p hb hp), B .caps b p hb hp, ap (λ t. capOf t p) (M .settings));
-        no-bidder = λ k hk h. zero-past k hk (λ l. absurd (let z : ⊥ = omega arith in z));
-        no-product = λ k hk h. zero-past k hk (λ l. h);
+        no-bidder = λ k hk h. zero-back _ (bare k hk (λ l. absurd (let z : ⊥ = omega arith in z)));
+        no-product = λ k hk h. zero-back _ (bare k hk (λ l. h));
         eligible = λ b hb.
             omega (arith, row-is b hb, B .eligible b hb, S .eligible b hb, free-is b (omega (arith, S .limits .bidders)), ap (λ t. initialOf t b) (M .settings));
         no-free = λ b h l. free-is b l ∙ B .no-free b h l;
@@ -193,29 +231,44 @@ module _ (a : Auction) (o : Outbid) where
       }
 
     -- closed or stopped: round and prices stay
-    ends : (ph : ℕ) → eqb ph bidsOpen ≡ false → phaseStands (with ph (a .round) (a .lanes)) ≡ true → Meets ph (a .round) (a .lanes)
+    ends : (ph : ℕ) → eqb ph bidsOpen ≡ false → phaseStands (with ph (a .round) (rest .lanes)) ≡ true → Meets ph (a .round) (rest .lanes)
     ends ph e f = record {
       settings = rest-setup;
       some-round = S .some-round;
       round = S .round;
-      within = S .prices;
+      within = λ p hp.
+          let l : p < 8 = omega (arith, S .limits .products) in
+          omega (arith, S .prices p hp, rest-price p l, rest-before p l);
       fell = λ p hp t. clash t e;
-      same = λ p hp q. (refl, refl);
-      none = S .no-price;
+      same = λ p hp q. let l : p < 8 = omega (arith, S .limits .products) in (rest-price p l, rest-before p l);
+      none = λ p h l. let x = S .no-price p h l in (rest-price p l ∙ x .0, rest-before p l ∙ x .1);
+      marks = λ p hp h. absurd (let z : ⊥ = omega (arith, rest-mark p (omega (arith, S .limits .products))) in z);
+      no-mark = λ p h l. rest-mark p l;
       phase = f;
     }
 
     -- open: the next round at the next prices
     onward-setup : setup (with bidsOpen (a .round + 1) onwards) ≡ setup a
-    onward-setup = prices-setup rest (priceNext rest) (beforeNext rest) ∙ rest-setup
+    onward-setup = marks-setup priced (markNext os rest) ∙ prices-setup rest (priceNext os rest) (beforeNext rest) ∙ rest-setup
 
-    next-of : stops rest ≡ false → (p : ℕ) → p < m → Priced a p (held (rest .records) n p) (price onwards p) (before onwards p)
+    -- what the price q falls to where g is the target
+    abbrev cut : ℕ → ℕ → ℕ → ℕ
+    cut p q g = fallen q (decrementBy (overrideFor os p) (decrementFor (a .decrements) (held (rest .records) n p - g) g))
+
+    next-of : stops rest ≡ false → (p : ℕ) → p < m
+        → Priced a (overrideFor os p) p (held (rest .records) n p) (price onwards p) (before onwards p) (mark onwards p)
     next-of e p hp =
-        let N = next rest (rw rest-setup (S .limits)) p hp (S .prices p hp .0) e in
+        let l : p < 8 = omega (arith, S .limits .products) in
+        let x = rest-price p l in
+        let y = rest-before p l in
         let t = ap (λ t. targetOf t p) rest-setup in
-        let x = price-anew rest (priceNext rest) (beforeNext rest) p (omega (arith, S .limits .products)) in
-        let y = before-anew rest (priceNext rest) (beforeNext rest) p (omega (arith, S .limits .products)) in
-        rw (x, y) (record { fell = λ l. N .fell (omega arith); stayed = λ l. N .stayed (omega arith) })
+        let N = next rest (rw rest-setup (S .limits)) os O p hp (omega (arith, S .prices p hp)) e in
+        rw (on-price p l, on-before p l, on-mark p l) (record {
+          fell = λ l. let v = N .fell (omega arith) in (v .0, omega (arith, v), v .2 ∙ x);
+          stayed = λ l. let v = N .stayed (omega arith) in (v .0 ∙ x, v .1 ∙ y);
+          by = λ l. let v = N .by (omega arith) in (v .0 ∙ ap₂ (cut p) x t, v .1);
+          unmarked = λ l. N .unmarked (omega arith);
+        })
 
     goes-on : 0 < excess rest → stops rest ≡ false → Meets bidsOpen (a .round + 1) onwards
     goes-on h e =
@@ -228,13 +281,27 @@ module _ (a : Auction) (o : Outbid) where
           same = λ p hp q. next-of e p hp .stayed (omega arith);
           none = λ p h l.
               let z = S .no-price p h l in
-              let y = next-none rest (rw rest-setup (S .limits)) p (z .0) (z .1) in
-              (price-anew rest (priceNext rest) (beforeNext rest) p l ∙ y .0, before-anew rest (priceNext rest) (beforeNext rest) p l ∙ y .1);
+              let y = next-none rest (rw rest-setup (S .limits)) os p (rest-price p l ∙ z .0) (rest-before p l ∙ z .1) in
+              (on-price p l ∙ y .0, on-before p l ∙ y .1);
+          marks = λ p hp h. marks-by p hp h (ltb (goal p) (held (rest .records) n p)) refl;
+          no-mark = λ p h l. on-mark p l ∙ mark-low rest os p (omega (arith, none-held p h l));
           phase = later-open (with bidsOpen (a .round + 1) onwards) (λ q. omega (arith, S .some-round))
               (omega (arith, excess-same rest (with bidsOpen (a .round + 1) onwards) (onward-setup ∙ sym rest-setup) refl refl))
               (λ q p hp. kept-is p hp ∙ B .first (omega arith) p hp);
         }
       where
+        one-at-most : (t : Bool) → 0 < oneIf t → oneIf t ≡ 1
+        one-at-most true h = refl
+        one-at-most false h = absurd (let z : ⊥ = omega arith in z)
+
+        marks-by : (p : ℕ) → p < m → 0 < mark onwards p → (s : Bool) → ltb (goal p) (held (rest .records) n p) ≡ s
+            → (mark onwards p ≡ 1) × (eqb bidsOpen bidsOpen ≡ true) × (2 ≤ a .round + 1) × (goal p < held (rest .records) n p)
+        marks-by p hp h true f =
+            let l = ltb-true _ _ f in
+            let x = next-of e p hp .by l .1 in
+            (x ∙ one-at-most (isGiven (overrideFor os p)) (omega arith), refl, omega (arith, S .some-round), l)
+        marks-by p hp h false f = absurd (let z : ⊥ = omega (arith, next-of e p hp .unmarked (ltb-false _ _ f)) in z)
+
         within-by : (p : ℕ) → p < m → (s : Bool) → ltb (goal p) (held (rest .records) n p) ≡ s
             → (1 ≤ price onwards p) × (price onwards p ≤ before onwards p) × (before onwards p ≤ startOf (setup a) p)
         within-by p hp true f =
@@ -247,7 +314,7 @@ module _ (a : Auction) (o : Outbid) where
             (omega (arith, x, y), omega (arith, x, y), omega (arith, x, y))
 
     -- what stood stands
-    pub settled-stands : Stands (settled a o)
+    pub settled-stands : Stands (settled a os o)
     settled-stands =
         settled-each Stands
         (λ e. stands-with closed _ _ (ends closed refl (eq-eqb _ _ e)))
@@ -255,30 +322,35 @@ module _ (a : Auction) (o : Outbid) where
         (λ h e. stands-with bidsOpen _ _ (goes-on h e))
 
     -- the lists keep their lengths
-    pub settled-long : Long a → Long (settled a o)
+    pub settled-long : Long a → Long (settled a os o)
     settled-long L =
-        settled-each Long (λ e. long _ _ _ (L .lanes)) (λ h t. long _ _ _ (L .lanes)) (λ h e. long _ _ _ (list-long _ 8))
+        settled-each Long (λ e. long _ _ _ (list-long _ 8)) (λ h t. long _ _ _ (list-long _ 8)) (λ h e. long _ _ _ (list-long _ 8))
       where
         long : (ph rd : ℕ) (ls : List Lane) → length ls ≡ 8 → Long (with ph rd ls)
         long ph rd ls l =
             record { lanes = l; seats = list-long _ 32; row = L .row; records = list-long _ 256; lines = length-replicate 256 noLine }
 
     -- the prices after
-    pub settled-prices : (p : ℕ) → p < a .terms .products → PriceAfter a (settled a o) p
+    pub settled-prices : (p : ℕ) → p < a .terms .products → PriceAfter a (settled a os o) p
     settled-prices p hp =
         settled-each (λ z. PriceAfter a z p) (λ e. rested closed refl) (λ h t. rested stopped refl)
         (λ h e. open-by (next-of e p hp) (ltb (goal p) (held (rest .records) n p)) refl)
       where
-        rested : (ph : ℕ) → eqb ph bidsOpen ≡ false → PriceAfter a (with ph (a .round) (a .lanes)) p
-        rested ph e = record {
-          some = S .prices p hp .0;
-          no-rise = omega arith;
-          fell = λ t. clash t e;
-          stayed = λ t h. (refl, refl);
-          ended = λ t. (refl, refl);
-        }
+        l : p < 8
+        l = omega (arith, S .limits .products)
 
-        open-by : Priced a p (held (rest .records) n p) (price onwards p) (before onwards p)
+        rested : (ph : ℕ) → eqb ph bidsOpen ≡ false → PriceAfter a (with ph (a .round) (rest .lanes)) p
+        rested ph e =
+            let x = rest-price p l in
+            let y = rest-before p l in record {
+              some = omega (arith, S .prices p hp);
+              no-rise = omega arith;
+              fell = λ t. clash t e;
+              stayed = λ t h. (x, y);
+              ended = λ t. (x, y);
+            }
+
+        open-by : Priced a (overrideFor os p) p (held (rest .records) n p) (price onwards p) (before onwards p) (mark onwards p)
             → (s : Bool) → ltb (goal p) (held (rest .records) n p) ≡ s → PriceAfter a (with bidsOpen (a .round + 1) onwards) p
         open-by N true f =
             let x = N .fell (ltb-true _ _ f) in record {
@@ -298,8 +370,19 @@ module _ (a : Auction) (o : Outbid) where
               ended = λ t. clash refl t;
             }
 
+    -- whose decrement they are worked out by
+    pub settled-by-whom : (p : ℕ) → p < a .terms .products → PriceBy a (settled a os o) (overrideFor os p) p
+    settled-by-whom p hp =
+        settled-each (λ z. PriceBy a z (overrideFor os p) p) (λ e. rested closed refl) (λ h t. rested stopped refl) (λ h e.
+        let N = next-of e p hp in
+        record { fell = λ t. N .by; stayed = λ t. N .unmarked; ended = λ t. clash refl t })
+      where
+        rested : (ph : ℕ) → eqb ph bidsOpen ≡ false → PriceBy a (with ph (a .round) (rest .lanes)) (overrideFor os p) p
+        rested ph e =
+            record { fell = λ t. clash t e; stayed = λ t. clash t e; ended = λ t. rest-mark p (omega (arith, S .limits .products)) }
+
     -- closed, there is no excess: nothing above target, and no f
-    pub settled-closes : settled a o .phase ≡ closed → Closes a (settled a o)
+    pub settled-closes : settled a os o .phase ≡ closed → Closes a (settled a os o)
     settled-closes =
         settled-each (λ z. z .phase ≡ closed → Closes a z) (λ e c. closes e)
         (λ h t c. absurd (let z : ⊥ = omega arith in z)) (λ h e c. absurd (let z : ⊥ = omega arith in z))
@@ -309,7 +392,7 @@ module _ (a : Auction) (o : Outbid) where
             let x = sum-ge (λ p. aboveZero (standingOf rest p)) m p hp in
             omega (arith, above-zero (held (rest .records) n p) (targetOf (setup rest) p), ap (λ t. targetOf t p) rest-setup)
 
-        closes : excess rest ≡ 0 → Closes a (with closed (a .round) (a .lanes))
+        closes : excess rest ≡ 0 → Closes a (with closed (a .round) (rest .lanes))
         closes e = record {
           within = low e;
           filled = λ p hp h. omega (arith, low e p hp, held-is p hp, B .filled p (goal p) hp (omega arith) h);
@@ -323,30 +406,30 @@ module _ (a : Auction) (o : Outbid) where
         }
 
     -- what is the same in all three ends
-    pub settled-setup : setup (settled a o) ≡ setup a
+    pub settled-setup : setup (settled a os o) ≡ setup a
     settled-setup = settled-each (λ z. setup z ≡ setup a) (λ e. rest-setup) (λ h t. rest-setup) (λ h e. onward-setup)
 
     pub settled-record : (b p : ℕ) → b < a .terms .bidders → p < a .terms .products
-        → recordOf (settled a o) b p ≡ placeAt (o .places) (b * 8 + p) .holds
+        → recordOf (settled a os o) b p ≡ placeAt (o .places) (b * 8 + p) .holds
     settled-record b p hb hp =
         let e = at b p hb hp in
         settled-each (λ z. recordOf z b p ≡ placeAt (o .places) (b * 8 + p) .holds) (λ _. e) (λ _ _. e) (λ _ _. e)
 
     pub settled-held : (p : ℕ) → p < a .terms .products
-        → held (settled a o .records) (a .terms .bidders) p ≡ column heldOf (o .places) p (a .terms .bidders)
+        → held (settled a os o .records) (a .terms .bidders) p ≡ column heldOf (o .places) p (a .terms .bidders)
     settled-held p hp =
         let e = held-is p hp in
         settled-each (λ z. held (z .records) n p ≡ column heldOf (o .places) p n) (λ _. e) (λ _ _. e) (λ _ _. e)
 
     pub settled-kept : (p : ℕ) → p < a .terms .products
-        → keptOn (settled a o) p ≡ column keptOf (o .places) p (a .terms .bidders)
+        → keptOn (settled a os o) p ≡ column keptOf (o .places) p (a .terms .bidders)
     settled-kept p hp =
         let e = kept-is p hp in
         settled-each (λ z. keptOn z p ≡ column keptOf (o .places) p n) (λ _. e) (λ _ _. e) (λ _ _. e)
 
     -- a bidder's eligibility is what it bid and had denied
     pub settled-eligibility : (b : ℕ) → b < a .terms .bidders
-        → eligibility (settled a o) b ≡ sumUpTo (λ p. bidIn (bidOn a b p) + deniedIn (recordOf a b p)) (a .terms .products)
+        → eligibility (settled a os o) b ≡ sumUpTo (λ p. bidIn (bidOn a b p) + deniedIn (recordOf a b p)) (a .terms .products)
     settled-eligibility b hb =
         let x = sum-ext (λ p. goingIn (recordOf rest b p) + deniedIn (recordOf rest b p)) (λ p. worthOf (placeAt (o .places) (b * 8 + p))) m
         (λ p hp. ap (λ r. goingIn r + deniedIn r) (at b p hb hp)) in

@@ -105,7 +105,8 @@ module _ (s : List ℕ) (I : StandsIn s) where
       (then s _ (k + 2) _ (zero1 s _ _ (omega arith) (omega (arith, ap (λ i. i .cap .0) e, t, cap-is a p h)))
       (then s _ (k + 5) _ (zero3 s _ _ (omega arith) (omega (arith, ap (λ i. i .start) e, t, start-is a p h)))
       (then s _ (k + 8) _ (zero3 s _ _ (omega arith) (omega (arith, ap (λ i. i .price) e, x)))
-      (zero3 s _ _ (omega arith) (omega (arith, ap (λ i. i .before) e, x))))))
+      (then s _ (k + 11) _ (zero3 s _ _ (omega arith) (omega (arith, ap (λ i. i .before) e, x)))
+      (zero1 s _ _ (omega arith) (omega (arith, ap (λ i. i .mark) e, S .no-mark p l h)))))))
 
   seat-spare : (b : ℕ) → a .terms .bidders ≤ b → b < 32 → let k = b * bidderWidth + biddersFrom in Zero s k (k + bidderWidth)
   seat-spare b l h =

@@ -3,9 +3,11 @@ use mathlib.Core.Path.{_≡_}
 use mathlib.Core.Bool.{true, false}
 use mathlib.Core.Logic.{_⊎_}
 use mathlib.Core.List.{List}
-use Prim.Native.Nat.{ℕ, _+_, _*_, _/_, _%_, _≤_, _<_, min}
+use Prim.Native.Nat.{ℕ, _+_, _-_, _*_, _/_, _%_, _≤_, _<_, min}
 use lib.ListN.{length, getD}
 use Rattle.rules.specs.declared.Tranches.{Tranches}
+use Rattle.rules.specs.declared.Override.{Override}
+use Rattle.rules.specs.declared.Chosen.{Chosen}
 use Rattle.rules.specs.declared.Line.{Line}
 use Rattle.rules.specs.declared.Settings.{Settings}
 use Rattle.rules.specs.declared.Auction.{Auction}
@@ -13,7 +15,8 @@ use Rattle.rules.specs.Count.{sumUpTo}
 use Rattle.rules.specs.Answers.{answerOf, calculationSaid, bidsOpen, stopped}
 use Rattle.rules.specs.Settings.{setup, targetOf, startOf}
 use Rattle.rules.specs.Held.{goingIn, deniedIn, retainedIn, exitIn, held, freeOf, eligibility, excess}
-use Rattle.rules.specs.Bid.{hasFiled, slotOf, recordOf, priceAt, beforeAt}
+use Rattle.rules.specs.Bid.{oneIf, hasFiled, slotOf, recordOf, priceAt, beforeAt, markAt}
+use Rattle.rules.specs.Price.{decrementFor, fallen, isGiven, decrementBy}
 use Rattle.rules.specs.Cutback.{givenFor, revised}
 use Rattle.rules.specs.Layout.{productsFrom, biddersFrom, rowsFrom, recordsFrom, bidsFrom, loaded, productWidth, bidderWidth, rowWidth, recordWidth, lineWidth, stateLength}
 use Rattle.rules.specs.Legal.{isOpen, stands}
@@ -40,7 +43,8 @@ pub record SpareZero (s : List ℕ) : Type 0 where
 pub record RefusedSame (s : List ℕ) : Type 0 where
   pub opening : (x : Settings) → 0 < answerOf (openCall s x .answer) .number → openCall s x .bytes ≡ s
   pub filing : (c : List ℕ) → 0 < answerOf (fileCall s c .answer) .number → fileCall s c .bytes ≡ s
-  pub calculating : (draw : List ℕ) → 0 < calculationSaid (calculateCall s draw .answer) .number → calculateCall s draw .bytes ≡ s
+  pub calculating : (draw : List ℕ) (os : List Chosen) → 0 < calculationSaid (calculateCall s draw os .answer) .number
+      → calculateCall s draw os .bytes ≡ s
   pub cutting : (targets caps : List Tranches) → 0 < answerOf (cutbackCall s targets caps .answer) .number
       → cutbackCall s targets caps .bytes ≡ s
   pub returning : 0 < answerOf (returnCall s .answer) .number → returnCall s .bytes ≡ s
@@ -62,12 +66,23 @@ pub record PriceAfter (a z : Auction) (p : ℕ) : Type 0 where
       → (priceAt z p ≡ priceAt a p) × (beforeAt z p ≡ beforeAt a p)
   pub ended : isOpen z ≡ false → (priceAt z p ≡ priceAt a p) × (beforeAt z p ≡ beforeAt a p)
 
--- what a cutback to these targets and caps makes of the auction a: nothing changes but targets, caps, g, f, p, q, and the phase where it
--- stops; it never closes
+-- whose decrement product p's price is worked out by: o is the override given for it, if one is. "The cut is still at least 1"
+pub record PriceBy (a z : Auction) (o : Override) (p : ℕ) : Type 0 where
+  pub fell : isOpen z ≡ true → targetOf (setup a) p < held (z .records) (a .terms .bidders) p
+      → (priceAt z p
+      ≡ fallen (priceAt a p) (decrementBy o (decrementFor (a .decrements) (held (z .records) (a .terms .bidders) p - targetOf (setup a) p) (targetOf (setup a) p))))
+      × (markAt z p ≡ oneIf (isGiven o))
+  -- "an override on a product that isn't above target, or in a round that closes or stops, does nothing and isn't reported"
+  pub stayed : isOpen z ≡ true → held (z .records) (a .terms .bidders) p ≤ targetOf (setup a) p → markAt z p ≡ 0
+  pub ended : isOpen z ≡ false → markAt z p ≡ 0
+
+-- what a cutback to these targets and caps makes of the auction a: nothing changes but targets, caps, g, f, p, q, marks, which are
+-- dropped, and the phase where it stops; it never closes
 pub record CutOnly (a z : Auction) (targets caps : List Tranches) : Type 0 where
   pub settings : setup z ≡ revised (setup a) targets caps
   pub round : z .round ≡ a .round
   pub cards : z .cards ≡ a .cards
+  pub marks : (p : ℕ) → p < 8 → markAt z p ≡ 0
   pub phase : (z .phase ≡ bidsOpen) ⊎ (z .phase ≡ stopped)
   pub going : (b p : ℕ) → b < 32 → p < 8 → goingIn (recordOf z b p) ≡ min (goingIn (recordOf a b p)) (givenFor caps p)
   pub denied : (b p : ℕ) → b < 32 → p < 8 → deniedIn (recordOf z b p) ≡ deniedIn (recordOf a b p)

@@ -8,7 +8,7 @@ abbrev pub headWidth : ℕ
 headWidth = 13
 
 abbrev pub productWidth : ℕ
-productWidth = 11
+productWidth = 12
 
 abbrev pub bidderWidth : ℕ
 bidderWidth = 4

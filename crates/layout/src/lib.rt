@@ -32,7 +32,9 @@ pub const PRICE: usize = START + 3;
 
 pub const BEFORE: usize = PRICE + 3;
 
-pub const LANE: usize = BEFORE + 3 - TARGET;
+pub const MARK: usize = BEFORE + 3;
+
+pub const LANE: usize = MARK + 1 - TARGET;
 
 // ---- 32 bidders
 

@@ -20,16 +20,21 @@ fn product_stands(s: &[u8], held: &[u32; 8], kept: &[u32; 8], p: usize) -> bool
 {
     let x = book::price(s, p).amount();
     let q = book::before(s, p).amount();
+    let mark = book::mark(s, p);
     if p >= book::products(s) {
-        return (x == 0) & (q == 0);
+        return (x == 0) & ((q == 0) & (mark == 0));
     }
     // "1 <= p <= q, q at most the starting price"
     let start = book::start(s, p).amount();
     // "q > p where held exceeds target (in the open phase) or a tranche is kept"; "kept tranches only where held equals target"
     let fell = x < q;
-    let over = (book::phase(s) == rules::OPEN) & held::ticked(s, held, p);
+    let open = book::phase(s) == rules::OPEN;
+    let ticked = held::ticked(s, held, p);
     let some = kept[p] > 0;
-    let due = (!over | fell) & (!some | (fell & held::met(s, held, p)));
+    // "its mark only on products above target in an open round from 2"
+    let may = open & ((2 <= book::round(s)) & ticked);
+    let marked = !(mark > 0) | ((mark <= 1) & may);
+    let due = (!(open & ticked) | fell) & ((!some | (fell & held::met(s, held, p))) & marked);
     (1 <= x) & ((x <= q) & ((q <= start) & due))
 }
 

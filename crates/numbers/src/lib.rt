@@ -1,10 +1,12 @@
 // "Numbers answered": the first number that applies, for each call that is lent a state and needs one that stands. 0 stands for
 // none: the call does its work.
 ghost use mathlib.Core.Path.{_≡_};
+ghost use Rattle.rules.specs.Round.{overridesFit};
 ghost use Rattle.rules.specs.Calls.{countNumber, calculateNumber, cutbackNumber, reportNumber, resultNumber};
 ghost use Rattle.numbers.specs.State.{stateNumber};
 use layout::STATE;
 use rules::CLOSED;
+use rules::Chosen;
 use rules::OPEN;
 use rules::Tranches;
 // 1, 2, and 3 for an issued state, which has no auction; 0 where the state stands.
@@ -37,9 +39,25 @@ pub fn count_number(s: &[u8]) -> u8
     3
 }
 
-// Calculate: 1, 2, 3, 14.
-pub fn calculate_number(s: &[u8], draw: &[u8]) -> u8
-    ensures { λ r. ⌜ r ≡ calculateNumber (now (s .entry)) (now (draw .entry)) ⌝ }
+// "an override outside 1 to 1,000": every one given is judged, also one that would do nothing.
+fn overrides_fit(overrides: [Chosen; 8]) -> bool
+    ensures { λ r. ⌜ r ≡ overridesFit overrides ⌝ }
+{
+    let mut p: usize = 0;
+    while p < 8 {
+        let chosen = overrides[p];
+        let given = chosen.decrement;
+        if !given.fits() {
+            return false;
+        }
+        p += 1;
+    }
+    true
+}
+
+// Calculate: 1, 2, 3, 14, 19.
+pub fn calculate_number(s: &[u8], draw: &[u8], overrides: [Chosen; 8]) -> u8
+    ensures { λ r. ⌜ r ≡ calculateNumber (now (s .entry)) (now (draw .entry)) overrides ⌝ }
 {
     let n = state_number(s);
     if n != 0 {
@@ -48,10 +66,13 @@ pub fn calculate_number(s: &[u8], draw: &[u8]) -> u8
     if book::phase(s) != OPEN {
         return 3;
     }
-    if table::draw_fits(draw, book::bidders(s)) {
+    if !table::draw_fits(draw, book::bidders(s)) {
+        return 14;
+    }
+    if overrides_fit(overrides) {
         return 0;
     }
-    14
+    19
 }
 
 // Cutback: 1, 2, 3, 20.

@@ -48,6 +48,12 @@ fn fitting(n: u32) -> u16 {
 
 // ---- A cutback
 
+fn is_open(s: &[u8; STATE]) -> bool {
+    book::phase(s) == rules::OPEN
+}
+
+// One that changes no number can still change a price, since it drops overrides, or take off a mark alone; of two states of round 2 nothing else
+// does, but that a round which ends it takes off the marks.
 fn is_cut_on(first: &[u8; STATE], second: &[u8; STATE], p: usize) -> bool
     requires { ⌜ p < 8 ⌝ }
 {
@@ -55,7 +61,12 @@ fn is_cut_on(first: &[u8; STATE], second: &[u8; STATE], p: usize) -> bool
     let revised = book::target(second, p);
     let cap = book::cap(first, p);
     let lower = book::cap(second, p);
-    (target.0 != revised.0) | (cap.0 != lower.0)
+    let price = book::price(first, p).amount();
+    let afresh = book::price(second, p).amount();
+    let dropped = is_open(first)
+        & is_open(second)
+        & (book::mark(first, p) != book::mark(second, p));
+    (target.0 != revised.0) | (cap.0 != lower.0) | (price != afresh) | dropped
 }
 
 pub fn is_cut(first: &[u8; STATE], second: &[u8; STATE]) -> bool {
@@ -112,10 +123,10 @@ fn is_cutback(prior: &[u8; STATE], state: &[u8; STATE]) -> bool {
 
 // An open round before it, and a later one or none after it. An undone round lies the other way round.
 fn is_calculation(prior: &[u8; STATE], state: &[u8; STATE]) -> bool {
-    if book::phase(prior) != rules::OPEN {
+    if !is_open(prior) {
         return false;
     }
-    if book::phase(state) != rules::OPEN {
+    if !is_open(state) {
         return true;
     }
     book::round(prior) < book::round(state)
@@ -157,7 +168,7 @@ pub fn calculated(s: &[u8; STATE], places: &[i64; ROUNDS]) -> usize {
     if r == 0 {
         return 0;
     }
-    if book::phase(s) == rules::OPEN {
+    if is_open(s) {
         return r - 1;
     }
     if place_at(places, r) < 0 {

@@ -10,20 +10,24 @@ use borrow.Author.Tests.{le-leb, lt-leb, le-ltb, lt-ltb, ltb-true, ltb-false, eq
 use lib.Dec.{eqb, ltb}
 use lib.ListN.{length, getD, set, length-set}
 use lib.Seq.{getD-set-same, getD-set-other}
+use mir.Val.{boolByte}
 use Rattle.rules.specs.declared.Price.{Price}
 use Rattle.rules.specs.declared.Quote.{Quote}
+use Rattle.rules.specs.declared.Override.{Override}
+use Rattle.rules.specs.declared.Chosen.{Chosen}
+use Rattle.rules.specs.declared.GoingPrice.{GoingPrice}
 use Rattle.rules.specs.declared.Decrements.{Decrements}
 use Rattle.rules.specs.declared.Auction.{Auction}
 use Rattle.rules.specs.Count.{sumUpTo, firstUpTo, isAt}
 use Rattle.rules.specs.Units.{unitOf, amountOf, quote}
 use Rattle.rules.specs.Settings.{percentOf, decrementOf}
 use Rattle.rules.specs.Held.{standing, standingOf, above, aboveZero}
-use Rattle.rules.specs.Bid.{priceAt}
-use Rattle.rules.specs.Price.{fallen, priceFallen, decrementUpTo, decrementFor, nextPrice, nextBefore}
-use Rattle.rules.specs.Round.{priceNext, beforeNext, stops}
+use Rattle.rules.specs.Bid.{oneIf, priceAt}
+use Rattle.rules.specs.Price.{fallen, priceFallen, decrementUpTo, decrementFor, isGiven, decrementBy, nextPrice, nextBefore}
+use Rattle.rules.specs.Round.{overrideFor, priceNext, markNext, beforeNext, stops}
 use Rattle.rules.proofs.Sums.{sum-ext}
 use Rattle.rules.proofs.Lists.{list-at}
-use Rattle.rules.proofs.Fill.{Filled, all-filled}
+use Rattle.rules.proofs.Fill.{Filled, none-filled, one-more as one-filled, all-filled}
 use Rattle.rules.proofs.Units.{amount-of}
 use Rattle.rules.proofs.Signed.{above-is, above-zero}
 use Rattle.held.proofs.Found.{one-more, or-is}
@@ -32,7 +36,7 @@ use Rattle.storing.specs.Written.{amountAt}
 use Rattle.prices.specs.declared.Next.{Next}
 use Rattle.prices.specs.declared.Lanes.{Lanes}
 use Rattle.prices.specs.declared.Outlook.{Outlook}
-use Rattle.prices.specs.Outlook.{WorkedOut, targetOn, standingOn, atOne, priceOn, beforeOn, Foresees, Listed, Shows}
+use Rattle.prices.specs.Outlook.{NextOf, WorkedOut, targetOn, standingOn, atOne, priceOn, markOn, beforeOn, Foresees, Listed, Shows}
 
 -- ---- one product
 
@@ -49,30 +53,38 @@ module _ (d : Decrements) (pct i : ℕ) {x y e : ℕ} (ex : x ≡ percentOf d i)
 pub no-target : (x t : ℕ) → t ≤ 0 → 0 ≡ x / t
 no-target x t h = let e : t ≡ 0 = omega arith in rw (e, div-zero)
 
-module _ (d : Decrements) (h t : ℕ) (x y : Price) where
+module _ (d : Decrements) (o : Override) (h t : ℕ) (x : Price) {n : ℕ} (v : n ≡ aboveZero (standing h t)) where
+  pub not-over : n ≡ 0 → above (standing h t) ≡ false
+  not-over z = above-is h t ∙ le-ltb t h (omega (arith, above-zero h t))
+
+  pub is-over : (n ≡ 0 → ⊥) → above (standing h t) ≡ true
+  is-over l = above-is h t ∙ lt-ltb t h (omega (arith, above-zero h t, l))
+
   -- "Other prices stay."
-  pub stays : {n : ℕ} → n ≡ aboveZero (standing h t) → n ≡ 0 → WorkedOut d h t x y (record { over = 0; price = x; before = y })
-  stays v z =
-      let e : above (standing h t) ≡ false = above-is h t ∙ le-ltb t h (omega (arith, above-zero h t)) in
-      record {
-        over = omega (arith, above-zero h t);
-        price = sym (ap (λ b. cond b (fallen (amountOf x) (decrementFor d (aboveZero (standing h t)) t)) (amountOf x)) e);
-        before = sym (ap (λ b. cond b (amountOf x) (amountOf y)) e);
-      }
+  pub stays : n ≡ 0 → NextOf d o h t x (record { price = x; overridden = false })
+  stays z = record {
+    price = sym (ap (λ b. cond b (fallen (amountOf x) (decrementBy o (decrementFor d (aboveZero (standing h t)) t))) (amountOf x)) (not-over z));
+    overridden = sym (ap (λ b. b && isGiven o) (not-over z));
+  }
 
   -- "the cut is p x decrement / 10,000, rounded half up, at least 1"
-  pub falls : {n : ℕ} → n ≡ aboveZero (standing h t) → (n ≡ 0 → ⊥) → (pct e : ℕ) {r : Price} → pct ≡ 100 * n / t
-      → e ≡ decrementUpTo d pct (d .rows) → r ≡ priceFallen x e → WorkedOut d h t x y (record { over = n; price = r; before = x })
-  falls v l pct e f g k =
-      let o = above-is h t ∙ lt-ltb t h (omega (arith, above-zero h t, l)) in
-      let u : decrementUpTo d pct (d .rows) ≡ decrementFor d (aboveZero (standing h t)) t =
-      ap (λ p. decrementUpTo d p (d .rows)) (f ∙ ap (λ n. 100 * n / t) v) in
+  pub falls : (n ≡ 0 → ⊥) → (pct e u : ℕ) {r : Price} {w : Bool} → pct ≡ 100 * n / t → e ≡ decrementUpTo d pct (d .rows)
+      → u ≡ decrementBy o e → r ≡ priceFallen x u → w ≡ isGiven o → NextOf d o h t x (record { price = r; overridden = w })
+  falls l pct e u f g j k w =
+      let z : e ≡ decrementFor d (aboveZero (standing h t)) t = g ∙ ap (λ p. decrementUpTo d p (d .rows)) (f ∙ ap (λ n. 100 * n / t) v) in
       record {
-        over = v;
-        price = amount-of (unitOf x) (fallen (amountOf x) e) k ∙ ap (fallen (amountOf x)) (g ∙ u)
-            ∙ sym (ap (λ b. cond b (fallen (amountOf x) (decrementFor d (aboveZero (standing h t)) t)) (amountOf x)) o);
-        before = sym (ap (λ b. cond b (amountOf x) (amountOf y)) o);
+        price = amount-of (unitOf x) (fallen (amountOf x) u) k ∙ ap (fallen (amountOf x)) (j ∙ ap (decrementBy o) z)
+            ∙ sym (ap (λ b. cond b (fallen (amountOf x) (decrementBy o (decrementFor d (aboveZero (standing h t)) t))) (amountOf x)) (is-over l));
+        overridden = w ∙ sym (ap (λ b. b && isGiven o) (is-over l));
       }
+
+  module _ (y : Price) {r : GoingPrice} (N : NextOf d o h t x r) where
+    -- q stays with a price that stays, and is the price that falls
+    pub before-stays : n ≡ 0 → WorkedOut d o h t x y (record { over = 0; going = r; before = y })
+    before-stays z = record { over = omega arith; going = N; before = sym (ap (λ b. cond b (amountOf x) (amountOf y)) (not-over z)) }
+
+    pub before-moves : (n ≡ 0 → ⊥) → WorkedOut d o h t x y (record { over = n; going = r; before = x })
+    before-moves l = record { over = v; going = N; before = sym (ap (λ b. cond b (amountOf x) (amountOf y)) (is-over l)) }
 
 -- ---- all products
 
@@ -101,41 +113,52 @@ amounts-next f i qs x A l e = record { long = length-set qs i _ ∙ A .long; don
         let n = eqb-false q i k in
         ap (λ y. amountOf (y .price)) (getD-set-other qs i q (record { price = x }) (quote 0 0) n) ∙ A .done q (omega arith)
 
+byte-is : (t : Bool) → boolByte t ≡ oneIf t
+byte-is true = refl
+byte-is false = refl
+
 -- the first p products are looked at, of which m are in use
-pub record Seen (d : Decrements) (holds : List ℕ) (l : Lanes) (m p : ℕ) (xs ys : List Quote) (o : ℕ) (b : Bool) : Type 0 where
+pub record Seen (d : Decrements) (holds : List ℕ) (l : Lanes) (m p : ℕ) (xs ys : List Quote) (ms : List ℕ) (o : ℕ) (b : Bool) : Type 0 where
   pub within : p ≤ 8
   pub price : Amounts (priceOn d holds l) p xs
   pub before : Amounts (beforeOn d holds l) p ys
+  pub mark : Filled (markOn d holds l) 8 p ms
   pub small : o ≤ 4294967295 * p
   pub over : o ≡ sumUpTo (λ q. aboveZero (standingOn d holds l q)) (p - (p - m))
   pub bottom : b ≡ isAt (firstUpTo (atOne d holds l) (p - (p - m)))
 
 module _ (d : Decrements) (holds : List ℕ) (l : Lanes) (m : ℕ) where
-  pub none-seen : {xs ys : List Quote} → length xs ≡ 8 → length ys ≡ 8 → Seen d holds l m 0 xs ys 0 false
-  none-seen e f =
+  pub none-seen : {xs ys : List Quote} {ms : List ℕ} → length xs ≡ 8 → length ys ≡ 8 → length ms ≡ 8 → Seen d holds l m 0 xs ys ms 0 false
+  none-seen e f g =
       let z : 0 - (0 - m) ≡ 0 = omega arith in record {
         within = omega arith;
         price = record { long = e; done = λ q h. absurd (let n : ⊥ = omega arith in n) };
         before = record { long = f; done = λ q h. absurd (let n : ⊥ = omega arith in n) };
+        mark = none-filled _ g;
         small = omega arith;
         over = rw z refl;
         bottom = rw z refl;
       }
 
-  module _ {p : ℕ} {xs ys : List Quote} {o : ℕ} {b : Bool} (S : Seen d holds l m p xs ys o b) (h : p < 8) {n : Next}
-      (W : WorkedOut d (getD holds p 0) (targetOn d holds l p) (getD (l .price) p (quote 0 0) .price) (getD (l .before) p (quote 0 0) .price) n) where
+  module _ {p : ℕ} {xs ys : List Quote} {ms : List ℕ} {o : ℕ} {b : Bool} (S : Seen d holds l m p xs ys ms o b) (h : p < 8) {n : Next}
+      (W : WorkedOut d (overrideFor (l .overrides) p) (getD holds p 0) (targetOn d holds l p) (getD (l .price) p (quote 0 0) .price)
+      (getD (l .before) p (quote 0 0) .price) n) where
+    marked : Filled (markOn d holds l) 8 (p + 1) (set ms p (boolByte (n .going .overridden)))
+    marked = one-filled _ (S .mark) h (byte-is (n .going .overridden) ∙ ap oneIf (W .going .overridden))
+
     -- a product in use
     pub seen-used : {x : ℕ} → x ≡ amountAt (l .price) p → p < m → n .over ≤ 4294967295
-        → Seen d holds l m (p + 1) (set xs p (record { price = n .price })) (set ys p (record { price = n .before })) (o + n .over)
-        (b || (ltb 0 (n .over) && eqb x 1))
+        → Seen d holds l m (p + 1) (set xs p (record { price = n .going .price })) (set ys p (record { price = n .before }))
+        (set ms p (boolByte (n .going .overridden))) (o + n .over) (b || (ltb 0 (n .over) && eqb x 1))
     seen-used g u k =
         let e : p - (p - m) ≡ p = omega arith in
         let f : p + 1 - (p + 1 - m) ≡ suc p = omega arith in
         let f₁ : p + 1 - (p + 1 - m) ≡ p + 1 = omega arith in
         record {
           within = omega arith;
-          price = amounts-next _ p xs (n .price) (S .price) h (W .price);
+          price = amounts-next _ p xs (n .going .price) (S .price) h (W .going .price);
           before = amounts-next _ p ys (n .before) (S .before) h (W .before);
+          mark = marked;
           small = let t = S .small in omega arith;
           over = rw f (ap₂ _+_ (rw e at (S .over)) (W .over));
           bottom = rw f₁ (one-more (atOne d holds l) p (rw e at (S .bottom))
@@ -144,21 +167,23 @@ module _ (d : Decrements) (holds : List ℕ) (l : Lanes) (m : ℕ) where
 
     -- one that is not in use
     pub seen-unused : m ≤ p
-        → Seen d holds l m (p + 1) (set xs p (record { price = n .price })) (set ys p (record { price = n .before })) o b
+        → Seen d holds l m (p + 1) (set xs p (record { price = n .going .price })) (set ys p (record { price = n .before }))
+        (set ms p (boolByte (n .going .overridden))) o b
     seen-unused u =
         let e : p + 1 - (p + 1 - m) ≡ p - (p - m) = omega arith in
         record {
           within = omega arith;
-          price = amounts-next _ p xs (n .price) (S .price) h (W .price);
+          price = amounts-next _ p xs (n .going .price) (S .price) h (W .going .price);
           before = amounts-next _ p ys (n .before) (S .before) h (W .before);
+          mark = marked;
           small = let t = S .small in omega arith;
           over = rw e (S .over);
           bottom = rw e (S .bottom);
         }
 
-pub all-seen : (a : Auction) (holds : List ℕ) (l : Lanes) {m p r : ℕ} {xs ys : List Quote} {o : ℕ} {b : Bool}
-    → Seen (a .decrements) holds l m p xs ys o b → 8 ≤ p → m ≡ a .terms .products → a .terms .products ≤ 8 → r ≡ a .round
-    → Foresees a holds l (record { over = o; stops = b || eqb r 4095; price = xs; before = ys })
+pub all-seen : (a : Auction) (holds : List ℕ) (l : Lanes) {m p r : ℕ} {xs ys : List Quote} {ms : List ℕ} {o : ℕ} {b : Bool}
+    → Seen (a .decrements) holds l m p xs ys ms o b → 8 ≤ p → m ≡ a .terms .products → a .terms .products ≤ 8 → r ≡ a .round
+    → Foresees a holds l (record { over = o; stops = b || eqb r 4095; price = xs; before = ys; mark = ms })
 all-seen a holds l {m} {p} {r} S h e k f =
     let z : p - (p - m) ≡ a .terms .products = let w = S .within in omega arith in
     record {
@@ -166,6 +191,7 @@ all-seen a holds l {m} {p} {r} S h e k f =
       stops = or-is (rw z at (S .bottom)) (ap (λ x. eqb x 4095) f);
       price = λ q g. S .price .done q (omega arith);
       before = λ q g. S .before .done q (omega arith);
+      mark = λ q g. ap (λ ms. getD ms q 0) (all-filled (S .mark) h) ∙ list-at (markOn (a .decrements) holds l) 0 8 q g;
       small = let t = S .small in let w = S .within in omega arith;
     }
 
@@ -176,8 +202,8 @@ module _ (u : ℕ) (t x y : ℕ → ℕ) where
   amounts-in f F k p h =
       amount-of u (f p) (ap (λ q. q .price) (ap (λ qs. getD qs p (quote 0 0)) (all-filled F k) ∙ list-at (λ p. quote u (f p)) (quote 0 0) 8 p h))
 
-  pub listed : {i : ℕ} {ts : List ℕ} {xs ys : List Quote} → Filled t 8 i ts → Filled (λ p. quote u (x p)) 8 i xs
-      → Filled (λ p. quote u (y p)) 8 i ys → 8 ≤ i → Listed (record { target = ts; price = xs; before = ys }) t x y
+  pub listed : {i : ℕ} {ts : List ℕ} {xs ys : List Quote} {os : List Chosen} → Filled t 8 i ts → Filled (λ p. quote u (x p)) 8 i xs
+      → Filled (λ p. quote u (y p)) 8 i ys → 8 ≤ i → Listed (record { target = ts; price = xs; before = ys; overrides = os }) t x y
   listed T X Y k = record {
     target = λ p h. ap (λ ts. getD ts p 0) (all-filled T k) ∙ list-at t 0 8 p h;
     price = amounts-in x X k;
@@ -203,10 +229,15 @@ module _ {a z : Auction} {holds : List ℕ} {l : Lanes} {r : Outlook} (F : Fores
       ap₂ (λ z x. above z && eqb x 1) (standing-same p (omega arith)) (W .lanes .price p (omega arith)))
       ∙ ap (λ t. firstUpTo (λ p. above (standingOf z p) && eqb (priceAt z p) 1) (t .products)) (sym (W .terms))) (sym (W .round))
 
-  pub price-of : (p : ℕ) → p < 8 → amountAt (r .price) p ≡ priceNext z p
+  pub price-of : (p : ℕ) → p < 8 → amountAt (r .price) p ≡ priceNext (l .overrides) z p
   price-of p h =
       F .price p h
-      ∙ (λ i. nextPrice (sym (W .decrements) i) (standing-same p h i) (W .lanes .target p h i) (W .lanes .price p h i))
+      ∙ (λ i. nextPrice (sym (W .decrements) i) (overrideFor (l .overrides) p) (standing-same p h i) (W .lanes .target p h i) (W .lanes .price p h i) .price)
+
+  pub mark-of : (p : ℕ) → p < 8 → getD (r .mark) p 0 ≡ markNext (l .overrides) z p
+  mark-of p h =
+      F .mark p h
+      ∙ (λ i. oneIf (nextPrice (sym (W .decrements) i) (overrideFor (l .overrides) p) (standing-same p h i) (W .lanes .target p h i) (W .lanes .price p h i) .overridden))
 
   pub before-of : (p : ℕ) → p < 8 → amountAt (r .before) p ≡ beforeNext z p
   before-of p h = F .before p h ∙ (λ i. nextBefore (standing-same p h i) (W .lanes .price p h i) (W .lanes .before p h i))

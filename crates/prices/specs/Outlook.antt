@@ -7,23 +7,31 @@ use lib.Dec.{eqb}
 use lib.IntN.{ℤ}
 use lib.ListN.{getD}
 use Rattle.rules.specs.declared.Price.{Price}
+use Rattle.rules.specs.declared.Override.{Override}
+use Rattle.rules.specs.declared.GoingPrice.{GoingPrice}
 use Rattle.rules.specs.declared.Decrements.{Decrements}
 use Rattle.rules.specs.declared.Auction.{Auction}
 use Rattle.rules.specs.Count.{sumUpTo, firstUpTo, isAt}
 use Rattle.rules.specs.Units.{amountOf}
 use Rattle.rules.specs.Settings.{setup, targetOf}
 use Rattle.rules.specs.Held.{standing, above, aboveZero, held}
-use Rattle.rules.specs.Bid.{priceAt, beforeAt}
-use Rattle.rules.specs.Price.{nextPrice, nextBefore}
+use Rattle.rules.specs.Bid.{oneIf, priceAt, beforeAt}
+use Rattle.rules.specs.Price.{Worked, nextPrice, nextBefore}
+use Rattle.rules.specs.Round.{overrideFor}
 use Rattle.storing.specs.Written.{amountAt}
 use Rattle.prices.specs.declared.Next.{Next}
 use Rattle.prices.specs.declared.Lanes.{Lanes}
 use Rattle.prices.specs.declared.Outlook.{Outlook}
 
--- one product, of which so much is held
-pub record WorkedOut (d : Decrements) (held target : ℕ) (x y : Price) (r : Next) : Type 0 where
+-- the working-out of one price, of a product of which so much is held
+pub record NextOf (d : Decrements) (o : Override) (held target : ℕ) (x : Price) (r : GoingPrice) : Type 0 where
+  pub price : amountOf (r .price) ≡ nextPrice d o (standing held target) target (amountOf x) .price
+  pub overridden : r .overridden ≡ nextPrice d o (standing held target) target (amountOf x) .overridden
+
+-- with its standing and its q
+pub record WorkedOut (d : Decrements) (o : Override) (held target : ℕ) (x y : Price) (r : Next) : Type 0 where
   pub over : r .over ≡ aboveZero (standing held target)
-  pub price : amountOf (r .price) ≡ nextPrice d (standing held target) target (amountOf x)
+  pub going : NextOf d o held target x (r .going)
   pub before : amountOf (r .before) ≡ nextBefore (standing held target) (amountOf x) (amountOf y)
 
 module _ (d : Decrements) (holds : List ℕ) (l : Lanes) where
@@ -37,8 +45,14 @@ module _ (d : Decrements) (holds : List ℕ) (l : Lanes) where
   abbrev pub atOne : ℕ → Bool
   atOne p = above (standingOn p) && eqb (amountAt (l .price) p) 1
 
+  abbrev pub workedOn : ℕ → Worked
+  workedOn p = nextPrice d (overrideFor (l .overrides) p) (standingOn p) (targetOn p) (amountAt (l .price) p)
+
   abbrev pub priceOn : ℕ → ℕ
-  priceOn p = nextPrice d (standingOn p) (targetOn p) (amountAt (l .price) p)
+  priceOn p = workedOn p .price
+
+  abbrev pub markOn : ℕ → ℕ
+  markOn p = oneIf (workedOn p .overridden)
 
   abbrev pub beforeOn : ℕ → ℕ
   beforeOn p = nextBefore (standingOn p) (amountAt (l .price) p) (amountAt (l .before) p)
@@ -49,6 +63,7 @@ pub record Foresees (a : Auction) (holds : List ℕ) (l : Lanes) (r : Outlook) :
   pub stops : r .stops ≡ cond (isAt (firstUpTo (atOne (a .decrements) holds l) (a .terms .products))) true (eqb (a .round) 4095)
   pub price : (p : ℕ) → p < 8 → amountAt (r .price) p ≡ priceOn (a .decrements) holds l p
   pub before : (p : ℕ) → p < 8 → amountAt (r .before) p ≡ beforeOn (a .decrements) holds l p
+  pub mark : (p : ℕ) → p < 8 → getD (r .mark) p 0 ≡ markOn (a .decrements) holds l p
   pub small : r .over ≤ 34359738360
 
 -- the targets, the going prices and the prices before them

@@ -31,9 +31,9 @@ module _ (s : List ℕ) (I : Issued s) where
       let n = issued-not-standing s (I .long) (I .zero) .1 c in
       stays _ (file-refused s c (λ e. omega arith))
   issued-after counts h = inl I
-  issued-after (calculates draw) h =
-      let n = issued-not-standing s (I .long) (I .zero) .3 draw in
-      stays _ (calculate-refused s draw (λ e. omega arith))
+  issued-after (calculates draw os) h =
+      let n = issued-not-standing s (I .long) (I .zero) .3 draw os in
+      stays _ (calculate-refused s draw os (λ e. omega arith))
   issued-after (cuts targets caps) h =
       let n = issued-not-standing s (I .long) (I .zero) .4 targets caps in
       stays _ (cutback-refused s targets caps (λ e. omega arith))

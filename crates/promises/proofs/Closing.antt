@@ -8,6 +8,7 @@ use native.Mathlib.Omega.{arith}
 use borrow.Author.Tests.{eqb-true, eq-eqb}
 use lib.ListN.{length, getD}
 use lib.Dec.{eqb}
+use Rattle.rules.specs.declared.Chosen.{Chosen}
 use Rattle.rules.specs.declared.Settings.{Settings}
 use Rattle.rules.specs.declared.Terms.{Terms}
 use Rattle.rules.specs.declared.Auction.{Auction}
@@ -95,7 +96,7 @@ module _ (s : List ℕ) (S : StandsIn s) (o : isOpen (loaded s) ≡ false) where
   ended-after (files c) =
       file-refused s c (λ n. clash (granted (isOpen (loaded s)) _ 3 (omega arith) (sym (of-standing s S 3 (cardNumber c)) ∙ n) .0) o)
   ended-after counts = refl
-  ended-after (calculates draw) = calculate-refused s draw (λ n. clash (calculate-accepts s S draw n .0) o)
+  ended-after (calculates draw os) = calculate-refused s draw os (λ n. clash (calculate-accepts s S draw os n .0) o)
   ended-after (cuts targets caps) = cutback-refused s targets caps (λ n. clash (cutback-accepts s S targets caps n .0) o)
   ended-after (reports b) = refl
   ended-after results = refl
@@ -111,17 +112,17 @@ module _ (s : List ℕ) (S : StandsIn s) (o : isOpen (loaded s) ≡ false) where
 
 -- a call calculates a round, or calculates none
 abbrev Calculates : List ℕ → Call → Type 0
-Calculates s c = (roundOf s c ≡ []) ⊎ ((draw : List ℕ) × (c ≡ calculates draw) × (calculateNumber s draw ≡ 0))
+Calculates s c = (roundOf s c ≡ []) ⊎ ((draw : List ℕ) × (os : List Chosen) × (c ≡ calculates draw os) × (calculateNumber s draw os ≡ 0))
 
-calculates-by : (s draw : List ℕ) (t : Bool) → eqb (calculateNumber s draw) 0 ≡ t → Calculates s (calculates draw)
-calculates-by s draw true e = inr (draw, refl, eqb-true (calculateNumber s draw) 0 e)
-calculates-by s draw false e = inl (rw e)
+calculates-by : (s draw : List ℕ) (os : List Chosen) (t : Bool) → eqb (calculateNumber s draw os) 0 ≡ t → Calculates s (calculates draw os)
+calculates-by s draw os true e = inr (draw, os, refl, eqb-true (calculateNumber s draw os) 0 e)
+calculates-by s draw os false e = inl (rw e)
 
 calculation : (s : List ℕ) (c : Call) → Calculates s c
 calculation s (opens x) = inl refl
 calculation s (files c) = inl refl
 calculation s counts = inl refl
-calculation s (calculates draw) = calculates-by s draw (eqb (calculateNumber s draw) 0) refl
+calculation s (calculates draw os) = calculates-by s draw os (eqb (calculateNumber s draw os) 0) refl
 calculation s (cuts targets caps) = inl refl
 calculation s (reports b) = inl refl
 calculation s results = inl refl
@@ -134,7 +135,7 @@ not-closed : {a z : Auction} {rs : List Round} {ks : List Cutback} → Stands a 
 unfolding withCard
 not-closed {a} S same e o c = let x = eqb-true (a .phase) 1 o in omega arith
 not-closed {a} S (card b ls) e o c = let x = eqb-true (a .phase) 1 o in omega arith
-not-closed {a} S (round draw o D) e _ c = some-none (record { auction = a; draw = draw }) [] e
+not-closed {a} S (round draw os o D O) e _ c = some-none (record { auction = a; draw = draw; overrides = os }) [] e
 not-closed {a} S (cut targets caps o m) e _ c = by (cut-only a targets caps S o m .phase)
   where
     by : (cutBack a targets caps .phase ≡ bidsOpen) ⊎ (cutBack a targets caps .phase ≡ stopped) → ⊥
@@ -146,6 +147,7 @@ closing-as : (s : List ℕ) (t u : Terms) (cs : List Call) → u .bidders ≡ t 
 closing-as s t u cs hb hp C = record {
   before = C .before;
   draw = C .draw;
+  overrides = C .overrides;
   rest = C .rest;
   split = C .split;
   bidding = C .bidding;
@@ -158,30 +160,31 @@ closing-as s t u cs hb hp C = record {
 
 module _ (s : List ℕ) (S : StandsIn s) (o : isOpen (loaded s) ≡ true) where
   -- the calculation that closed, with the calls that follow it
-  closing-now : (draw : List ℕ) → calculateNumber s draw ≡ 0 → (cs : List Call)
-      → isOpen (loaded (after s (calculates draw))) ≡ false → Closed (run (after s (calculates draw)) cs)
-      → ClosingBid s (loaded s .terms) (calculates draw ∷ cs)
-  closing-now draw n cs e z =
-      let q = after s (calculates draw) in
-      let Q = after-stands s S (calculates draw) in
+  closing-now : (draw : List ℕ) (os : List Chosen) → calculateNumber s draw os ≡ 0 → (cs : List Call)
+      → isOpen (loaded (after s (calculates draw os))) ≡ false → Closed (run (after s (calculates draw os)) cs)
+      → ClosingBid s (loaded s .terms) (calculates draw os ∷ cs)
+  closing-now draw os n cs e z =
+      let q = after s (calculates draw os) in
+      let Q = after-stands s S (calculates draw os) in
       let u = ended-stays q Q e cs in
       let w : Closed q = rw u at z in
-      let l = calculate-loaded s S draw n in
-      let d = calculate-accepts s S draw n in
-      let k = round-closes (loaded s) draw (stood s S) (loaded-long s) (d .0) (d .1) (bids-accepted (loaded s) (stood s S) o) (rw l at w) in
-      let t : loaded q .terms ≡ loaded s .terms = ap (λ t. t .terms) (run-later s S (calculates draw ∷ []) refl .settings) in
+      let l = calculate-loaded s S draw os n in
+      let d = calculate-accepts s S draw os n in
+      let k = round-closes (loaded s) draw os (stood s S) (loaded-long s) (d .0) (d .1) (d .2) (bids-accepted (loaded s) (stood s S) o) (rw l at w) in
+      let t : loaded q .terms ≡ loaded s .terms = ap (λ t. t .terms) (run-later s S (calculates draw os ∷ []) refl .settings) in
       let m = ap (λ t. t .products) t in
       let b = ap (λ t. t .bidders) t in
       record {
         before = [];
         draw = draw;
+        overrides = os;
         rest = cs;
         split = refl;
         bidding = o;
         accepted = n;
         closing = w;
         asked = λ i h.
-            let x = sum-ext (λ p. awardOn q i p) (λ p. heldIn (recordOf (calculated (loaded s) draw .auction) i p)) (loaded s .terms .products)
+            let x = sum-ext (λ p. awardOn q i p) (λ p. heldIn (recordOf (calculated (loaded s) draw os .auction) i p)) (loaded s .terms .products)
             (λ p hp. award-is q Q w i p (omega arith) (omega arith) ∙ ap (λ a. heldIn (recordOf a i p)) l) in
             subst (λ y. sumUpTo (λ p. bidIn (bidOn (loaded s) i p)) (loaded s .terms .products) ≤ sumUpTo (λ p. awardOn y i p) (loaded s .terms .products))
             (sym u) (omega (arith, k .asked i h));
@@ -192,6 +195,7 @@ closing-later : (s : List ℕ) (c : Call) (t : Terms) (cs : List Call) → Closi
 closing-later s c t cs C = record {
   before = c ∷ C .before;
   draw = C .draw;
+  overrides = C .overrides;
   rest = C .rest;
   split = ap (λ l. c ∷ l) (C .split);
   bidding = C .bidding;
@@ -217,9 +221,9 @@ closes-by s S o (c ∷ cs) z = by (isOpen (loaded (after s c))) refl (λ o. clos
     by false e f (inl k) =
         absurd (not-closed (stood s S) (step s S c) k o (subst Closed (ended-stays (after s c) (after-stands s S c) e cs) z))
     by false e f (inr k) =
-        subst (λ d. ClosingBid s (loaded s .terms) (d ∷ cs)) (sym (k .1))
-        (closing-now s S o (k .0) (k .2) cs (subst (λ d. isOpen (loaded (after s d)) ≡ false) (k .1) e)
-        (subst (λ d. Closed (run (after s d) cs)) (k .1) z))
+        subst (λ d. ClosingBid s (loaded s .terms) (d ∷ cs)) (sym (k .2))
+        (closing-now s S o (k .0) (k .1) (k .3) cs (subst (λ d. isOpen (loaded (after s d)) ≡ false) (k .2) e)
+        (subst (λ d. Closed (run (after s d) cs)) (k .2) z))
 
 -- ---- from an opening
 

@@ -8,6 +8,7 @@ use native.Mathlib.Omega.{arith}
 use borrow.Author.Tests.{ltb-true, ltb-false}
 use lib.ListN.{length}
 use lib.Dec.{ltb}
+use Rattle.rules.specs.declared.Chosen.{Chosen}
 use Rattle.rules.specs.declared.Settings.{Settings}
 use Rattle.rules.specs.declared.Auction.{Auction}
 use Rattle.rules.specs.Settings.{setup, termsOf, setupOf, targetOf, startOf}
@@ -29,25 +30,25 @@ use Rattle.promises.proofs.Steps.{Step, same, card, round, cut, step, s
 
 -- ---- one calculation
 
-module _ (s : List ℕ) (S : StandsIn s) (draw : List ℕ) (n : calculateNumber s draw ≡ 0) (p : ℕ) (h : p < loaded s .terms .products) where
-  priced : PriceAfter (loaded s) (loaded (calculateCall s draw .bytes)) p
+module _ (s : List ℕ) (S : StandsIn s) (draw : List ℕ) (os : List Chosen) (n : calculateNumber s draw os ≡ 0) (p : ℕ) (h : p < loaded s .terms .products) where
+  priced : PriceAfter (loaded s) (loaded (calculateCall s draw os .bytes)) p
   priced =
-      let o = calculate-accepts s S draw n in
-      rw (calculate-loaded s S draw n)
-      (round-prices (loaded s) draw (stood s S) (loaded-long s) (o .0) (o .1) (bids-accepted (loaded s) (stood s S) (o .0)) p h)
+      let o = calculate-accepts s S draw os n in
+      rw (calculate-loaded s S draw os n)
+      (round-prices (loaded s) draw os (stood s S) (loaded-long s) (o .0) (o .1) (o .2) (bids-accepted (loaded s) (stood s S) (o .0)) p h)
 
-  falls-by : isOpen (loaded (calculateCall s draw .bytes)) ≡ true → (t : Bool)
-      → ltb (targetOf (setup (loaded s)) p) (held (loaded (calculateCall s draw .bytes) .records) (loaded s .terms .bidders) p) ≡ t
-      → priceAt (loaded (calculateCall s draw .bytes)) p < priceAt (loaded s) p
-      → targetOf (setup (loaded s)) p < held (loaded (calculateCall s draw .bytes) .records) (loaded s .terms .bidders) p
+  falls-by : isOpen (loaded (calculateCall s draw os .bytes)) ≡ true → (t : Bool)
+      → ltb (targetOf (setup (loaded s)) p) (held (loaded (calculateCall s draw os .bytes) .records) (loaded s .terms .bidders) p) ≡ t
+      → priceAt (loaded (calculateCall s draw os .bytes)) p < priceAt (loaded s) p
+      → targetOf (setup (loaded s)) p < held (loaded (calculateCall s draw os .bytes) .records) (loaded s .terms .bidders) p
   falls-by o true e l = ltb-true _ _ e
   falls-by o false e l = absurd (let x : ⊥ = omega (arith, priced .stayed o (ltb-false _ _ e)) in x)
 
   -- "prices fall and the next round opens": over a calculation that leaves the auction open a price falls, by at least 1, exactly where
   -- more than the target is held
-  pub price-falls : isOpen (loaded (calculateCall s draw .bytes)) ≡ true
-      → (priceAt (loaded (calculateCall s draw .bytes)) p < priceAt (loaded s) p)
-      ↔ (targetOf (setup (loaded s)) p < held (loaded (calculateCall s draw .bytes) .records) (loaded s .terms .bidders) p)
+  pub price-falls : isOpen (loaded (calculateCall s draw os .bytes)) ≡ true
+      → (priceAt (loaded (calculateCall s draw os .bytes)) p < priceAt (loaded s) p)
+      ↔ (targetOf (setup (loaded s)) p < held (loaded (calculateCall s draw os .bytes) .records) (loaded s .terms .bidders) p)
   price-falls o = (falls-by o _ refl, λ l. priced .fell o l .0)
 
 -- ---- any call but an accepted cutback, whose prices are worked out afresh
@@ -69,8 +70,8 @@ unfolding withCard
 step-price S L same e p h = inr (refl, refl)
 step-price S L (card b ls) e p h = inr (refl, refl)
 step-price S L (cut targets caps o m) e p h = some-none (record { targets = targets; caps = caps }) [] e
-step-price {a} S L (round draw o D) e p h =
-    after-by a (calculated a draw .auction) p (round-prices a draw S L o D (bids-accepted a S o) p h) _ _ refl refl
+step-price {a} S L (round draw os o D O) e p h =
+    after-by a (calculated a draw os .auction) p (round-prices a draw os S L o D O (bids-accepted a S o) p h) _ _ refl refl
 
 pub price-before : (s : List ℕ) → StandsIn s → (c : Call) → cutbackOf s c ≡ [] → (p : ℕ) → p < loaded s .terms .products
     → FallsOrStays (loaded s) (loaded (after s c)) p

@@ -9,3 +9,4 @@ pub mod Settling
 pub mod Useful
 pub mod Astray
 pub mod Saying
+pub mod Overridden

@@ -63,11 +63,11 @@ step-backed {a} S L (cut targets caps u m) o b p B = λ hb hp.
     let n = ap (λ t. t .terms .bidders) t in
     let k = ap (λ t. t .terms .products) t in
     cut-backed a targets caps S u m b p (omega arith) (omega arith) o (B (omega arith) (omega arith))
-step-backed {a} S L (round draw u D) o b p B = λ hb hp.
-    let t = round-setup a draw S L u D (bids-accepted a S u) in
+step-backed {a} S L (round draw os u D F) o b p B = λ hb hp.
+    let t = round-setup a draw os S L u D F (bids-accepted a S u) in
     let n = ap (λ t. t .terms .bidders) t in
     let k = ap (λ t. t .terms .products) t in
-    round-backed a draw S L u D (bids-accepted a S u) b p (omega arith) (omega arith) o (B (omega arith) (omega arith))
+    round-backed a draw os S L u D F (bids-accepted a S u) b p (omega arith) (omega arith) o (B (omega arith) (omega arith))
 
 run-backed : (s : List ℕ) → StandsIn s → (cs : List Call) (o : OnOffer) (b p : ℕ) → BackedBy o (loaded s) b p
     → BackedBy (offeredFrom o (rounds s cs) b p) (loaded (run s cs)) b p
@@ -120,22 +120,22 @@ step-once {a} S L (cut targets caps u m) past b hb O =
     let q = sum-ext (λ p. retainedIn (recordOf z b p)) (λ p. retainedIn (recordOf a b p)) (a .terms .products)
     (λ p hp. C .retained b p (omega (arith, S .limits .bidders)) (omega (arith, S .limits .products))) in
     rw append-nil (record { whole = omega (arith, O .whole, C .eligible b hb); retained = omega (arith, O .retained); withdrawn = O .withdrawn })
-step-once {a} S L (round draw u D) past b hb O =
+step-once {a} S L (round draw os u D F) past b hb O =
     let A = bids-accepted a S u in
-    let r : Round = record { auction = a; draw = draw } in
-    let z : Auction = calculated a draw .auction in
+    let r : Round = record { auction = a; draw = draw; overrides = os } in
+    let z : Auction = calculated a draw os .auction in
     let m = a .terms .products in
-    let t = round-setup a draw S L u D A in
+    let t = round-setup a draw os S L u D F A in
     let i = ap (λ t. initialOf t b) t in
     let k = ap (λ t. sumUpTo (λ p. retainedIn (recordOf z b p)) (t .terms .products)) t in
     let g = rounds-on (givenUp b) past (r ∷ []) in
     let w = rounds-on (withdrawnIn b) past (r ∷ []) in
-    let e = round-eligibility a draw S L u D A b hb in
+    let e = round-eligibility a draw os S L u D F A b hb in
     let x = sum-add (λ p. bidIn (bidOn a b p)) (λ p. deniedIn (recordOf a b p)) m in
     let y = sum-add (λ p. goingIn (recordOf a b p)) (λ p. deniedIn (recordOf a b p)) m in
     let v = sum-add (λ p. retainedIn (recordOf a b p)) (λ p. withdrawnOn (bidOn a b p)) m in
     let q = sum-le (λ p. retainedIn (recordOf z b p)) (λ p. retainedIn (recordOf a b p) + withdrawnOn (bidOn a b p)) m
-    (λ p hp. round-retained a draw S L u D A b p hb hp) in
+    (λ p hp. round-retained a draw os S L u D F A b p hb hp) in
     let h = sum-six (λ p. bidIn (bidOn a b p)) (λ p. reduction (recordOf a b p) (bidOn a b p)) (λ p. 0)
     (λ p. goingIn (recordOf a b p)) (λ p. increase (recordOf a b p) (bidOn a b p)) (λ p. 0) m (λ p _. omega arith) in
     record {

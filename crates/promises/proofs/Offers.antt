@@ -9,13 +9,14 @@ use lib.Dec.{eqb, ltb}
 use Rattle.rules.specs.declared.Tranches.{Tranches}
 use Rattle.rules.specs.declared.Place.{Place}
 use Rattle.rules.specs.declared.Auction.{Auction}
+use Rattle.rules.specs.declared.Chosen.{Chosen}
 use Rattle.rules.specs.Answers.{closed}
 use Rattle.rules.specs.Settings.{setup, targetOf}
 use Rattle.rules.specs.Held.{goingIn, deniedIn, retainedIn, exitIn, held, standingOf, aboveZero, ticked, freeOf, excess}
 use Rattle.rules.specs.Bid.{withdrawnIn, recordOf, priceAt, beforeAt, bidOn}
 use Rattle.rules.specs.Accept.{placeAt, keptOf, deem}
 use Rattle.rules.specs.Outbid.{deemIf, deemedUpTo}
-use Rattle.rules.specs.Round.{drawFits, afterStep2, afterStep4, calculated}
+use Rattle.rules.specs.Round.{drawFits, overridesFit, afterStep2, afterStep4, calculated}
 use Rattle.rules.specs.Report.{highestIn, highestUpTo, paidOn}
 use Rattle.rules.specs.Cutback.{mayCut, revised, cutBack}
 use Rattle.rules.specs.Legal.{isOpen, openStands}
@@ -45,17 +46,17 @@ pub record Backed (o : OnOffer) (a : Auction) (b p : ℕ) : Type 0 where
 
 -- ---- one round
 
-module _ (a : Auction) (draw : List ℕ) (S : Stands a) (L : Long a) (op : isOpen a ≡ true)
-    (D : drawFits (a .terms .bidders) draw ≡ true) (A : AllAccepted a)
+module _ (a : Auction) (draw : List ℕ) (os : List Chosen) (S : Stands a) (L : Long a) (op : isOpen a ≡ true)
+    (D : drawFits (a .terms .bidders) draw ≡ true) (O : overridesFit os ≡ true) (A : AllAccepted a)
     (b p : ℕ) (hb : b < a .terms .bidders) (hp : p < a .terms .products) where
   abbrev r : Round
-  r = record { auction = a; draw = draw }
+  r = record { auction = a; draw = draw; overrides = os }
 
   abbrev n : ℕ
   n = a .terms .bidders
 
   abbrev z : Auction
-  z = calculated a draw .auction
+  z = calculated a draw os .auction
 
   abbrev at2 : Place
   at2 = placeAt (afterStep2 a draw .places) (b * 8 + p)
@@ -71,10 +72,10 @@ module _ (a : Auction) (draw : List ℕ) (S : Stands a) (L : Long a) (op : isOpe
 
   record-is : recordOf z b p ≡ at4 .holds
   unfolding calculated
-  record-is = settled-record a _ S B b p hb hp
+  record-is = settled-record a os _ S B O b p hb hp
 
   -- what is then retained was retained before or is withdrawn in this round
-  pub round-retained : retainedIn (recordOf (calculated a draw .auction) b p) ≤ retainedIn (recordOf a b p) + withdrawnIn (bidOn a b p)
+  pub round-retained : retainedIn (recordOf (calculated a draw os .auction) b p) ≤ retainedIn (recordOf a b p) + withdrawnIn (bidOn a b p)
   round-retained = let e = ap retainedIn record-is in omega (arith, trail a draw S L op D A b p hb hp)
 
   -- step 3 at this place
@@ -90,28 +91,28 @@ module _ (a : Auction) (draw : List ℕ) (S : Stands a) (L : Long a) (op : isOpe
   unfolding calculated
   met h =
       let x = sum-ge (λ b. keptOf (placeAt (afterStep4 a draw (afterStep2 a draw .places) .places) (b * 8 + p))) n b hb in
-      settled-held a _ S B p hp ∙ B .kept p hp (omega arith) .1
+      settled-held a os _ S B O p hp ∙ B .kept p hp (omega arith) .1
 
   -- this round's price is at most the next price before, and the next price where the product is not above target
   price-for : (s u : Bool) → isOpen z ≡ s → ltb (targetOf (setup a) p) (held (z .records) n p) ≡ u
       → (priceAt a p ≤ beforeAt z p) × (held (z .records) n p ≤ targetOf (setup a) p → priceAt a p ≤ priceAt z p)
   price-for false u e f =
-      let x = round-prices a draw S L op D A p hp .ended e in
+      let x = round-prices a draw os S L op D O A p hp .ended e in
       let y = S .prices p hp in
       (omega (arith, x, y), λ h. omega (arith, x))
   price-for true true e f =
       let l = ltb-true _ _ f in
-      let x = round-prices a draw S L op D A p hp .fell e l in
+      let x = round-prices a draw os S L op D O A p hp .fell e l in
       (omega (arith, x), λ h. absurd (let w : ⊥ = omega arith in w))
   price-for true false e f =
-      let x = round-prices a draw S L op D A p hp .stayed e (ltb-false _ _ f) in
+      let x = round-prices a draw os S L op D O A p hp .stayed e (ltb-false _ _ f) in
       let y = S .prices p hp in
       (omega (arith, x, y), λ h. omega (arith, x))
 
   -- where held equals target the price before stays
   before-for : held (z .records) n p ≡ targetOf (setup a) p → (s : Bool) → isOpen z ≡ s → beforeAt z p ≡ beforeAt a p
-  before-for h true e = round-prices a draw S L op D A p hp .stayed e (omega arith) .1
-  before-for h false e = round-prices a draw S L op D A p hp .ended e .1
+  before-for h true e = round-prices a draw os S L op D O A p hp .stayed e (omega arith) .1
+  before-for h false e = round-prices a draw os S L op D O A p hp .ended e .1
 
   module _ (o : OnOffer) (K : Backed o a b p) where
     -- what the steps leave at this place
@@ -172,10 +173,10 @@ module _ (a : Auction) (draw : List ℕ) (S : Stands a) (L : Long a) (op : isOpe
         }
 
     -- a round carries it on
-    pub round-backed : Backed (offering (record { auction = a; draw = draw }) b p o) (calculated a draw .auction) b p
+    pub round-backed : Backed (offering (record { auction = a; draw = draw; overrides = os }) b p o) (calculated a draw os .auction) b p
     round-backed =
         let X = left-by (ticked a p) (increaseLeft r b p) refl refl deemed-is in
-        let t = round-setup a draw S L op D A in
+        let t = round-setup a draw os S L op D O A in
         let g = ap goingIn record-is in
         let d = ap deniedIn record-is in
         let q = ap retainedIn record-is in

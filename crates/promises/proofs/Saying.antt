@@ -7,6 +7,7 @@ use lib.Dec.{eqb}
 use Rattle.rules.specs.declared.Tranches.{Tranches}
 use Rattle.rules.specs.declared.Line.{Line}
 use Rattle.rules.specs.declared.CardRead.{CardRead}
+use Rattle.rules.specs.declared.Chosen.{Chosen}
 use Rattle.rules.specs.declared.Settings.{Settings}
 use Rattle.rules.specs.declared.Calculated.{Calculated}
 use Rattle.rules.specs.declared.Calculation.the-variants as calculation
@@ -88,13 +89,13 @@ calculate-by : (t : Bool) (n : ℕ) (c : Calculated) (s : List ℕ)
 calculate-by true n c s = refl
 calculate-by false n c s = refl
 
-pub calculate-said : (s draw : List ℕ)
-    → calculationSaid (calculateCall s draw .answer)
-    ≡ cond (eqb (calculateNumber s draw) 0)
-    (said 0 (calculated (loaded s) draw .kept ∷ calculated (loaded s) draw .outbid ∷ []))
-    (said (calculateNumber s draw) [])
+pub calculate-said : (s draw : List ℕ) (os : List Chosen)
+    → calculationSaid (calculateCall s draw os .answer)
+    ≡ cond (eqb (calculateNumber s draw os) 0)
+    (said 0 (calculated (loaded s) draw os .kept ∷ calculated (loaded s) draw os .outbid ∷ []))
+    (said (calculateNumber s draw os) [])
 unfolding calculateCall
-calculate-said s draw = calculate-by (eqb (calculateNumber s draw) 0) (calculateNumber s draw) (calculated (loaded s) draw) s
+calculate-said s draw os = calculate-by (eqb (calculateNumber s draw os) 0) (calculateNumber s draw os) (calculated (loaded s) draw os) s
 
 -- report says f, the phase and the range
 report-by : (t : Bool) (n : ℕ) (r : Reported)

@@ -8,6 +8,7 @@ use borrow.Author.Tests.{eqb-true}
 use lib.Dec.{eqb}
 use Rattle.rules.specs.declared.Tranches.{Tranches}
 use Rattle.rules.specs.declared.Line.{Line}
+use Rattle.rules.specs.declared.Chosen.{Chosen}
 use Rattle.rules.specs.declared.Settings.{Settings}
 use Rattle.rules.specs.declared.Auction.{Auction}
 use Rattle.rules.specs.declared.Answer.{Answer}
@@ -44,9 +45,9 @@ unique-file s c = leaves-one (fileCall s c)
 pub unique-count : (s : List ℕ) (o k : Count) → Gives (countCall s) o → Gives (countCall s) k → o ≡ k
 unique-count s = gives-one (countCall s)
 
-pub unique-calculate : (s draw : List ℕ) (o k : Calculation) (t u : List ℕ)
-    → Leaves (calculateCall s draw) o t → Leaves (calculateCall s draw) k u → (o ≡ k) × (t ≡ u)
-unique-calculate s draw = leaves-one (calculateCall s draw)
+pub unique-calculate : (s draw : List ℕ) (os : List Chosen) (o k : Calculation) (t u : List ℕ)
+    → Leaves (calculateCall s draw os) o t → Leaves (calculateCall s draw os) k u → (o ≡ k) × (t ≡ u)
+unique-calculate s draw os = leaves-one (calculateCall s draw os)
 
 pub unique-cutback : (s : List ℕ) (targets caps : List Tranches) (o k : Answer) (t u : List ℕ)
     → Leaves (cutbackCall s targets caps) o t → Leaves (cutbackCall s targets caps) k u → (o ≡ k) × (t ≡ u)
@@ -73,42 +74,43 @@ unique-suggested bid ratio = gives-one (suggestedCall bid ratio)
 
 -- ---- the two counts
 
-module _ (s : List ℕ) (S : StandsIn s) (draw : List ℕ) (k o : ℕ) (d : calculationSaid (calculateCall s draw .answer) ≡ said 0 (k ∷ o ∷ [])) where
+module _ (s : List ℕ) (S : StandsIn s) (draw : List ℕ) (os : List Chosen) (k o : ℕ)
+    (d : calculationSaid (calculateCall s draw os .answer) ≡ said 0 (k ∷ o ∷ [])) where
   abbrev a : Auction
   a = loaded s
 
   abbrev z : Auction
-  z = loaded (calculateCall s draw .bytes)
+  z = loaded (calculateCall s draw os .bytes)
 
-  accepted-by : (t : Bool) → eqb (calculateNumber s draw) 0 ≡ t
-      → calculationSaid (cond t (calculationDone (calculated a draw)) (outcome (calculation.Refused (calculateNumber s draw)) s) .answer) ≡ said 0 (k ∷ o ∷ [])
-      → (calculateNumber s draw ≡ 0) × (calculated a draw .kept ≡ k) × (calculated a draw .outbid ≡ o)
+  accepted-by : (t : Bool) → eqb (calculateNumber s draw os) 0 ≡ t
+      → calculationSaid (cond t (calculationDone (calculated a draw os)) (outcome (calculation.Refused (calculateNumber s draw os)) s) .answer) ≡ said 0 (k ∷ o ∷ [])
+      → (calculateNumber s draw os ≡ 0) × (calculated a draw os .kept ≡ k) × (calculated a draw os .outbid ≡ o)
   accepted-by true e f =
-      let v : _≡_ {A = List ℕ} (calculated a draw .kept ∷ calculated a draw .outbid ∷ []) (k ∷ o ∷ []) = ap (λ x. x .values) f in
+      let v : _≡_ {A = List ℕ} (calculated a draw os .kept ∷ calculated a draw os .outbid ∷ []) (k ∷ o ∷ []) = ap (λ x. x .values) f in
       (eqb-true _ 0 e, cc, cc)
   accepted-by false e f =
       let v : _≡_ {A = List ℕ} [] (k ∷ o ∷ []) = ap (λ x. x .values) f in
       let x : _≡_ {A = ℕ} 0 1 = cc in
       absurd (let y : ⊥ = omega arith in y)
 
-  accepted : (calculateNumber s draw ≡ 0) × (calculated a draw .kept ≡ k) × (calculated a draw .outbid ≡ o)
+  accepted : (calculateNumber s draw os ≡ 0) × (calculated a draw os .kept ≡ k) × (calculated a draw os .outbid ≡ o)
   unfolding calculateCall
-  accepted = accepted-by (eqb (calculateNumber s draw) 0) refl d
+  accepted = accepted-by (eqb (calculateNumber s draw os) 0) refl d
 
   -- "The first equals the kept tranches now on products that had ticked."
   pub kept-count : k ≡ keptWhereTicked a z
   kept-count =
       let A = accepted in
-      let c = calculate-accepts s S draw (A .0) in
-      rw (calculate-loaded s S draw (A .0))
-      (sym (A .1) ∙ round-kept a draw (stood s S) (loaded-long s) (c .0) (c .1) (bids-accepted a (stood s S) (c .0)))
+      let c = calculate-accepts s S draw os (A .0) in
+      rw (calculate-loaded s S draw os (A .0))
+      (sym (A .1) ∙ round-kept a draw os (stood s S) (loaded-long s) (c .0) (c .1) (c .2) (bids-accepted a (stood s S) (c .0)))
 
   -- "The second equals the kept tranches that stood before on the other products, less those deemed bid in step 3, less those still
   -- kept there."
   pub outbid-count : CountsOutbid a z o
   outbid-count =
       let A = accepted in
-      let c = calculate-accepts s S draw (A .0) in
-      rw (calculate-loaded s S draw (A .0))
-      (subst (λ n. CountsOutbid a (calculated a draw .auction) n) (A .2)
-      (round-outbid a draw (stood s S) (loaded-long s) (c .0) (c .1) (bids-accepted a (stood s S) (c .0))))
+      let c = calculate-accepts s S draw os (A .0) in
+      rw (calculate-loaded s S draw os (A .0))
+      (subst (λ n. CountsOutbid a (calculated a draw os .auction) n) (A .2)
+      (round-outbid a draw os (stood s S) (loaded-long s) (c .0) (c .1) (c .2) (bids-accepted a (stood s S) (c .0))))

@@ -9,13 +9,14 @@ use lib.ListN.{length}
 use lib.Dec.{eqb}
 use Rattle.rules.specs.declared.Tranches.{Tranches}
 use Rattle.rules.specs.declared.Line.{Line}
+use Rattle.rules.specs.declared.Chosen.{Chosen}
 use Rattle.rules.specs.declared.Settings.{Settings}
 use Rattle.rules.specs.declared.Setup.{Setup}
 use Rattle.rules.specs.declared.Auction.{Auction}
 use Rattle.rules.specs.Settings.{setup, termsOf, setupOf, targetOf}
 use Rattle.rules.specs.Held.{held}
 use Rattle.rules.specs.Bid.{priceAt}
-use Rattle.rules.specs.Round.{drawFits, calculated}
+use Rattle.rules.specs.Round.{drawFits, overridesFit, calculated}
 use Rattle.rules.specs.Cutback.{mayCut, revised, cutBack}
 use Rattle.rules.specs.Layout.{loaded}
 use Rattle.rules.specs.Legal.{isOpen}
@@ -39,8 +40,8 @@ use Rattle.promises.specs.Demands.{KeptBut}
 pub data Step (a : Auction) : Auction → List Round → List Cutback → Type 0 where
   same : Step a a [] []
   card : (b : ℕ) (ls : List Line) → Step a (withCard a b ls) [] []
-  round : (draw : List ℕ) → isOpen a ≡ true → drawFits (a .terms .bidders) draw ≡ true
-      → Step a (calculated a draw .auction) (record { auction = a; draw = draw } ∷ []) []
+  round : (draw : List ℕ) (os : List Chosen) → isOpen a ≡ true → drawFits (a .terms .bidders) draw ≡ true → overridesFit os ≡ true
+      → Step a (calculated a draw os .auction) (record { auction = a; draw = draw; overrides = os } ∷ []) []
   cut : (targets caps : List Tranches) → isOpen a ≡ true → mayCut a targets caps ≡ true
       → Step a (cutBack a targets caps) [] (record { targets = targets; caps = caps } ∷ [])
 
@@ -53,13 +54,13 @@ module _ (s : List ℕ) (S : StandsIn s) where
   file-step c true e = rw (file-loaded s S c (eqb-true (fileNumber s c) 0 e)) (card _ _)
   file-step c false e = stays _ (file-refused s c (eqb-false (fileNumber s c) 0 e))
 
-  calculate-step : (draw : List ℕ) (t : Bool) → eqb (calculateNumber s draw) 0 ≡ t
-      → Step (loaded s) (loaded (calculateCall s draw .bytes)) (cond t (record { auction = loaded s; draw = draw } ∷ []) []) []
-  calculate-step draw true e =
-      let n = eqb-true (calculateNumber s draw) 0 e in
-      let o = calculate-accepts s S draw n in
-      rw (calculate-loaded s S draw n) (round draw (o .0) (o .1))
-  calculate-step draw false e = stays _ (calculate-refused s draw (eqb-false (calculateNumber s draw) 0 e))
+  calculate-step : (draw : List ℕ) (os : List Chosen) (t : Bool) → eqb (calculateNumber s draw os) 0 ≡ t
+      → Step (loaded s) (loaded (calculateCall s draw os .bytes)) (cond t (record { auction = loaded s; draw = draw; overrides = os } ∷ []) []) []
+  calculate-step draw os true e =
+      let n = eqb-true (calculateNumber s draw os) 0 e in
+      let o = calculate-accepts s S draw os n in
+      rw (calculate-loaded s S draw os n) (round draw os (o .0) (o .1) (o .2))
+  calculate-step draw os false e = stays _ (calculate-refused s draw os (eqb-false (calculateNumber s draw os) 0 e))
 
   cutback-step : (targets caps : List Tranches) (t : Bool) → eqb (cutbackNumber s targets caps) 0 ≡ t
       → Step (loaded s) (loaded (cutbackCall s targets caps .bytes)) [] (cond t (record { targets = targets; caps = caps } ∷ []) [])
@@ -73,7 +74,7 @@ module _ (s : List ℕ) (S : StandsIn s) where
   step (opens x) = stays _ (open-standing s x S .1)
   step (files c) = file-step c (eqb (fileNumber s c) 0) refl
   step counts = same
-  step (calculates draw) = calculate-step draw (eqb (calculateNumber s draw) 0) refl
+  step (calculates draw os) = calculate-step draw os (eqb (calculateNumber s draw os) 0) refl
   step (cuts targets caps) = cutback-step targets caps (eqb (cutbackNumber s targets caps) 0) refl
   step (reports b) = same
   step results = same
@@ -86,7 +87,7 @@ module _ (s : List ℕ) (S : StandsIn s) where
   after-stands (opens x) = rw (open-standing s x S .1) S
   after-stands (files c) = file-stands s S c
   after-stands counts = S
-  after-stands (calculates draw) = calculate-stands s S draw
+  after-stands (calculates draw os) = calculate-stands s S draw os
   after-stands (cuts targets caps) = cutback-stands s S targets caps
   after-stands (reports b) = S
   after-stands results = S
@@ -146,17 +147,17 @@ step-later : {a z : Auction} {rs : List Round} {ks : List Cutback} → Stands a 
 unfolding withCard
 step-later {a} S L same e = later-same a
 step-later {a} S L (card b ls) e = record { settings = refl; filled = λ p h. omega arith; price = λ p h. omega arith }
-step-later {a} S L (round draw o D) _ =
+step-later {a} S L (round draw os o D O) _ =
     let A = bids-accepted a S o in
-    let e = round-setup a draw S L o D A in
-    let r = calculated a draw .auction .records in
+    let e = round-setup a draw os S L o D O A in
+    let r = calculated a draw os .auction .records in
     record {
       settings = e;
       filled = λ p h.
           let n = ap (λ t. held r (t .terms .bidders) p) e in
           let t = ap (λ t. targetOf t p) e in
-          omega (arith, round-filled a draw S L o D A p (filledPart a p) h (omega arith) (omega arith));
-      price = λ p h. round-prices a draw S L o D A p h .no-rise;
+          omega (arith, round-filled a draw os S L o D O A p (filledPart a p) h (omega arith) (omega arith));
+      price = λ p h. round-prices a draw os S L o D O A p h .no-rise;
     }
 step-later {a} S L (cut targets caps o m) e = some-none (record { targets = targets; caps = caps }) [] e
 
@@ -166,14 +167,14 @@ step-setup : {a z : Auction} {rs : List Round} {ks : List Cutback} → Stands a 
 unfolding withCard
 step-setup S L same = refl
 step-setup S L (card b ls) = refl
-step-setup {a} S L (round draw o D) = round-setup a draw S L o D (bids-accepted a S o)
+step-setup {a} S L (round draw os o D O) = round-setup a draw os S L o D O (bids-accepted a S o)
 step-setup {a} S L (cut targets caps o m) = cut-only a targets caps S o m .settings
 
 step-keeps : {a z : Auction} {rs : List Round} {ks : List Cutback} → Stands a → Long a → Step a z rs ks → KeptBut (setup a) (setup z)
 unfolding withCard revised
 step-keeps {a} S L same = kept-same (setup a)
 step-keeps {a} S L (card b ls) = kept-same (setup a)
-step-keeps {a} S L (round draw o D) = rw (round-setup a draw S L o D (bids-accepted a S o)) (kept-same (setup a))
+step-keeps {a} S L (round draw os o D O) = rw (round-setup a draw os S L o D O (bids-accepted a S o)) (kept-same (setup a))
 step-keeps {a} S L (cut targets caps o m) =
     let t = setup a in
     rw (cut-only a targets caps S o m .settings) (record {

@@ -10,13 +10,15 @@ use lib.ListN.{length, replicate, length-replicate}
 use lib.Count.{ones}
 use lib.Dec.{eqb}
 use Rattle.rules.specs.declared.Tranches.{Tranches}
+use Rattle.rules.specs.declared.Override.the-variants as override
+use Rattle.rules.specs.declared.Chosen.{Chosen}
 use Rattle.rules.specs.declared.Settings.{Settings}
 use Rattle.rules.specs.declared.Product.{Product}
 use Rattle.rules.specs.declared.Unit.the-variants as unit
 use Rattle.rules.specs.declared.Auction.{Auction}
 use Rattle.rules.specs.declared.Outbid.{Outbid}
 use Rattle.rules.specs.Count.{allUpTo, from}
-use Rattle.rules.specs.Units.{tranches, quote}
+use Rattle.rules.specs.Units.{tranches, points, quote}
 use Rattle.rules.specs.Answers.{said, answerOf, cardSaid, countSaid, calculationSaid, reportSaid, awardSaid, volumeSaid, closed, stopped}
 use Rattle.rules.specs.Parts.{row, noRow}
 use Rattle.rules.specs.Settings.{setup, noProduct, settingsFit, setupOf, targetOf, capOf}
@@ -31,7 +33,7 @@ use Rattle.rules.specs.Cutback.{givenFor, revised}
 use Rattle.rules.specs.Report.{reportOn, resultOf}
 use Rattle.rules.specs.Layout.{stateLength, loaded, allZero}
 use Rattle.rules.specs.Legal.{isOpen}
-use Rattle.rules.specs.Calls.{opened, openNumber, openCall, ofState, cardNumber, withCard, afterCard, fileCall, openNumberOf, countCall, drawNumber, calculateNumber, calculateCall, cutNumber, cutbackNumber, cutbackCall, bidderNumber, reportCall, closedNumber, resultCall, returnCall, readCall, writeCall, suggestedCall}
+use Rattle.rules.specs.Calls.{opened, openNumber, openCall, ofState, cardNumber, withCard, afterCard, fileCall, openNumberOf, countCall, roundNumber, calculateNumber, calculateCall, cutNumber, cutbackNumber, cutbackCall, bidderNumber, reportCall, closedNumber, resultCall, returnCall, readCall, writeCall, suggestedCall}
 use Rattle.rules.proofs.Lists.{clash}
 use Rattle.laws.proofs.Calling.{granted}
 use Rattle.laws.specs.OneCall.{StandsIn}
@@ -51,23 +53,23 @@ open-writes s x new e r q =
     let z = granted (allZero s) _ 17 (omega arith) (l .1) .0 in
     clash z (ap allZero (sym q) ∙ not-issued _ (open-stands s x new e r))
 
-rest-other : (a : Auction) (o : Outbid) (t u : Bool) → isOpen a ≡ true
-    → cond t (atRest closed a o) (cond u (atRest stopped a o) (onward (atRest closed a o))) ≡ a → ⊥
-rest-other a o true u h e = let x = eqb-true (a .phase) 1 h in let y = ap (λ z. z .phase) e in omega arith
-rest-other a o false true h e = let x = eqb-true (a .phase) 1 h in let y = ap (λ z. z .phase) e in omega arith
-rest-other a o false false h e = let y = ap (λ z. z .round) e in omega arith
+rest-other : (a : Auction) (os : List Chosen) (o : Outbid) (t u : Bool) → isOpen a ≡ true
+    → cond t (atRest closed a o) (cond u (atRest stopped a o) (onward os (atRest closed a o))) ≡ a → ⊥
+rest-other a os o true u h e = let x = eqb-true (a .phase) 1 h in let y = ap (λ z. z .phase) e in omega arith
+rest-other a os o false true h e = let x = eqb-true (a .phase) 1 h in let y = ap (λ z. z .phase) e in omega arith
+rest-other a os o false false h e = let y = ap (λ z. z .round) e in omega arith
 
-settled-other : (a : Auction) (o : Outbid) → isOpen a ≡ true → settled a o ≡ a → ⊥
-settled-other a o = rest-other a o (eqb (excess (atRest closed a o)) 0) (stops (atRest closed a o))
+settled-other : (a : Auction) (os : List Chosen) (o : Outbid) → isOpen a ≡ true → settled a os o ≡ a → ⊥
+settled-other a os o = rest-other a os o (eqb (excess (atRest closed a o)) 0) (stops (atRest closed a o))
 
-round-other : (a : Auction) (draw : List ℕ) → isOpen a ≡ true → calculated a draw .auction ≡ a → ⊥
+round-other : (a : Auction) (draw : List ℕ) (os : List Chosen) → isOpen a ≡ true → calculated a draw os .auction ≡ a → ⊥
 unfolding calculated
-round-other a draw = settled-other a (afterStep4 a draw (afterStep2 a draw .places))
+round-other a draw os = settled-other a os (afterStep4 a draw (afterStep2 a draw .places))
 
 -- a calculation accepted changes the state, in every round
-pub calculate-writes : (s : List ℕ) → StandsIn s → (draw : List ℕ) → calculateNumber s draw ≡ 0 → calculateCall s draw .bytes ≡ s → ⊥
-calculate-writes s S draw n q =
-    round-other (loaded s) draw (calculate-accepts s S draw n .0) (sym (calculate-loaded s S draw n) ∙ ap loaded q)
+pub calculate-writes : (s : List ℕ) → StandsIn s → (draw : List ℕ) (os : List Chosen) → calculateNumber s draw os ≡ 0 → calculateCall s draw os .bytes ≡ s → ⊥
+calculate-writes s S draw os n q =
+    round-other (loaded s) draw os (calculate-accepts s S draw os n .0) (sym (calculate-loaded s S draw os n) ∙ ap loaded q)
 
 -- a cutback accepted that revises a target or a cap changes the state
 pub cutback-writes : (s : List ℕ) → StandsIn s → (targets caps : List Tranches) → cutbackNumber s targets caps ≡ 0
@@ -144,24 +146,33 @@ pub file-answers : (answerOf (fileCall openBox cardOf0 .answer) ≡ said 0 []) �
 unfolding fileCall settingS cardOf0 opened setupOf allUpTo from judged readCard readLines fieldAt bitAt
 file-answers = (rw (box-says 3 (cardNumber cardOf0)), rw (box-says 3 (cardNumber [])))
 
-none-kept : (calculated (opened (setupOf settingS)) draw012 .kept ≡ 0) × (calculated (opened (setupOf settingS)) draw012 .outbid ≡ 0)
+none-kept : (calculated (opened (setupOf settingS)) draw012 [] .kept ≡ 0) × (calculated (opened (setupOf settingS)) draw012 [] .outbid ≡ 0)
 unfolding settingS draw012 opened setupOf allUpTo from calculated keepLoop deemedUpTo outbidLoop
 none-kept = (refl, refl)
 
-pub calculate-answers : (calculationSaid (calculateCall openBox draw012 .answer) ≡ said 0 (0 ∷ 0 ∷ []))
-    × (calculationSaid (calculateCall openBox [] .answer) ≡ said 14 [])
+pub calculate-answers : (calculationSaid (calculateCall openBox draw012 [] .answer) ≡ said 0 (0 ∷ 0 ∷ []))
+    × (calculationSaid (calculateCall openBox [] [] .answer) ≡ said 14 [])
 unfolding calculateCall settingS draw012 opened setupOf allUpTo from
 calculate-answers =
-    (rw (box-says 3 (drawNumber draw012), open-auction, none-kept .0, none-kept .1), rw (box-says 3 (drawNumber [])))
+    (rw (box-says 3 (roundNumber draw012 []), open-auction, none-kept .0, none-kept .1), rw (box-says 3 (roundNumber [] [])))
+
+-- an override of 0, the draw in order and not
+unfoldable pub byZero : List Chosen
+byZero = record { decrement = override.Points (points 0) } ∷ []
+
+pub override-answers : (calculationSaid (calculateCall openBox draw012 byZero .answer) ≡ said 19 [])
+    × (calculationSaid (calculateCall openBox [] byZero .answer) ≡ said 14 [])
+unfolding calculateCall settingS draw012 byZero opened setupOf allUpTo from
+override-answers = (rw (box-says 3 (roundNumber draw012 byZero)), rw (box-says 3 (roundNumber [] byZero)))
 
 -- and so of the other calls: the box as opened, and as a round without a card closes it
 abbrev pub closedBox : List ℕ
-closedBox = calculateCall openBox draw012 .bytes
+closedBox = calculateCall openBox draw012 [] .bytes
 
-closed-auction : loaded closedBox ≡ calculated (opened (setupOf settingS)) draw012 .auction
+closed-auction : loaded closedBox ≡ calculated (opened (setupOf settingS)) draw012 [] .auction
 unfolding settingS draw012 opened setupOf allUpTo from
 closed-auction =
-    calculate-loaded openBox open-box draw012 (box-says 3 (drawNumber draw012)) ∙ ap (λ a. calculated a draw012 .auction) open-auction
+    calculate-loaded openBox open-box draw012 [] (box-says 3 (roundNumber draw012 [])) ∙ ap (λ a. calculated a draw012 [] .auction) open-auction
 
 pub closed-box : Closed closedBox
 unfolding settingS draw012 opened setupOf allUpTo from calculated keepLoop deemedUpTo outbidLoop
@@ -171,11 +182,11 @@ pub count-answers : (countSaid (countCall openBox) ≡ said 0 (3 ∷ [])) × (co
 unfolding countCall settingS opened setupOf ones
 count-answers = (rw (box-says 3 openNumberOf, open-auction), refl)
 
-reported : bidderNumber 0 (calculated (opened (setupOf settingS)) draw012 .auction) ≡ 0
+reported : bidderNumber 0 (calculated (opened (setupOf settingS)) draw012 [] .auction) ≡ 0
 unfolding settingS draw012 opened setupOf allUpTo from calculated keepLoop deemedUpTo outbidLoop
 reported = refl
 
-first-report : reportSaid (reportOn (calculated (opened (setupOf settingS)) draw012 .auction) 0 .report) ≡ said 0 (0 ∷ closed ∷ 0 ∷ 20 ∷ [])
+first-report : reportSaid (reportOn (calculated (opened (setupOf settingS)) draw012 [] .auction) 0 .report) ≡ said 0 (0 ∷ closed ∷ 0 ∷ 20 ∷ [])
 unfolding reportOn settingS draw012 opened setupOf allUpTo from calculated keepLoop deemedUpTo outbidLoop
 first-report = refl
 
@@ -183,14 +194,14 @@ pub report-answers : (reportSaid (reportCall closedBox 0 .report) ≡ said 0 (0 
     × (reportSaid (reportCall openBox 0 .report) ≡ said 18 [])
 unfolding reportCall settingS opened setupOf
 report-answers = (
-  rw (of-standing closedBox (calculate-stands openBox open-box draw012) 3 (bidderNumber 0), closed-auction, reported) first-report,
+  rw (of-standing closedBox (calculate-stands openBox open-box draw012 []) 3 (bidderNumber 0), closed-auction, reported) first-report,
   rw (box-says 3 (bidderNumber 0)),
 )
 
 pub result-answers : (awardSaid (resultCall closedBox .award) ≡ said 0 []) × (awardSaid (resultCall openBox .award) ≡ said 16 [])
 unfolding resultCall resultOf opened
 result-answers =
-    (rw (closed-gives closedBox (calculate-stands openBox open-box draw012) closed-box), rw (box-says 16 closedNumber))
+    (rw (closed-gives closedBox (calculate-stands openBox open-box draw012 []) closed-box), rw (box-says 16 closedNumber))
 
 pub read-answers : (cardSaid (readCall cardOf0 2 .card) ≡ said 0 (0 ∷ 1 ∷ [])) × (cardSaid (readCall [] 2 .card) ≡ said 4 [])
 unfolding cardOf0 readCard readLines fieldAt bitAt
@@ -247,13 +258,13 @@ stands2 = file-stands box1 stands1 cardOf1
 
 -- the box in round 2, in which no card is filed
 abbrev pub roundTwo : List ℕ
-roundTwo = calculateCall box2 draw012 .bytes
+roundTwo = calculateCall box2 draw012 [] .bytes
 
-holds3 : loaded roundTwo ≡ calculated auction2 draw012 .auction
+holds3 : loaded roundTwo ≡ calculated auction2 draw012 [] .auction
 unfolding settingS draw012 cardOf0 cardOf1 opened setupOf allUpTo from readCard readLines fieldAt bitAt withCard
 holds3 =
-    calculate-loaded box2 stands2 draw012 (says-of box2 stands2 auction2 holds2 3 (drawNumber draw012))
-    ∙ ap (λ a. calculated a draw012 .auction) holds2
+    calculate-loaded box2 stands2 draw012 [] (says-of box2 stands2 auction2 holds2 3 (roundNumber draw012 []))
+    ∙ ap (λ a. calculated a draw012 [] .auction) holds2
 
 abbrev two : ℕ → ℕ → List Tranches
 two x y = tranches x ∷ tranches y ∷ replicate 6 (tranches 0)
@@ -263,5 +274,5 @@ pub cutback-answers : (answerOf (cutbackCall roundTwo (two 3 2) (two 1 2) .answe
     × (answerOf (cutbackCall roundTwo (two 2 2) (two 1 2) .answer) ≡ said 20 [])
 unfolding cutbackCall settingS draw012 cardOf0 cardOf1 opened setupOf allUpTo from readCard readLines fieldAt bitAt withCard setIn calculated keepLoop deemedUpTo outbidLoop
 cutback-answers =
-    let S = calculate-stands box2 stands2 draw012 in
+    let S = calculate-stands box2 stands2 draw012 [] in
     (rw (says-of roundTwo S _ holds3 3 (cutNumber (two 3 2) (two 1 2))), rw (says-of roundTwo S _ holds3 3 (cutNumber (two 2 2) (two 1 2))))

@@ -17,17 +17,17 @@ offer n x s y w e all = record { bid = n; price = x; switched = s; before = y; w
 
 unfoldable pub roundsOfS : List Round
 roundsOfS =
-    record { auction = filed (opened S) (card (b 2) (b 0)) (card (b 2) (b 1)) (card (b 1) (b 1)); draw = draw 0 1 2 }
-    ∷ record { auction = filed s1 (card (line 1 1 985 0) (b 0)) (card (b 1) (line 2 0 0 1)) (card (line 0 1 980 0) (b 1)); draw = draw 0 1 2 }
-    ∷ record { auction = filed s2 (card (b 1) (b 0)) (card (b 1) (line 1 1 790 0)) (card (b 0) (line 0 1 790 0)); draw = draw 2 0 1 }
+    record { auction = filed (opened S) (card (b 2) (b 0)) (card (b 2) (b 1)) (card (b 1) (b 1)); draw = draw 0 1 2; overrides = [] }
+    ∷ record { auction = filed s1 (card (line 1 1 985 0) (b 0)) (card (b 1) (line 2 0 0 1)) (card (line 0 1 980 0) (b 1)); draw = draw 0 1 2; overrides = [] }
+    ∷ record { auction = filed s2 (card (b 1) (b 0)) (card (b 1) (line 1 1 790 0)) (card (b 0) (line 0 1 790 0)); draw = draw 2 0 1; overrides = [] }
     ∷ []
 
 -- in the last of these bidder 0's denied switch is deemed bid
 unfoldable pub roundsOfT : List Round
 roundsOfT =
-    record { auction = filed (opened T) (card (b 2) (b 0)) (card (b 1) (b 1)) (card (b 0) (b 2)); draw = draw 0 1 2 }
-    ∷ record { auction = filed t1 (card (b 0) (line 2 0 0 1)) (card (b 1) (b 1)) (card (b 0) (b 2)); draw = draw 0 1 2 }
-    ∷ record { auction = filed t2 (card (line 1 0 0 1) (b 0)) (card (b 1) (b 1)) (card (b 0) (b 2)); draw = draw 0 1 2 }
+    record { auction = filed (opened T) (card (b 2) (b 0)) (card (b 1) (b 1)) (card (b 0) (b 2)); draw = draw 0 1 2; overrides = [] }
+    ∷ record { auction = filed t1 (card (b 0) (line 2 0 0 1)) (card (b 1) (b 1)) (card (b 0) (b 2)); draw = draw 0 1 2; overrides = [] }
+    ∷ record { auction = filed t2 (card (line 1 0 0 1) (b 0)) (card (b 1) (b 1)) (card (b 0) (b 2)); draw = draw 0 1 2; overrides = [] }
     ∷ []
 
 pub offers-worked :

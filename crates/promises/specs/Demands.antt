@@ -3,6 +3,7 @@ use mathlib.Core.Path.{_≡_}
 use mathlib.Core.Bool.{true}
 use mathlib.Core.List.{List, _∷_, _++_}
 use Prim.Native.Nat.{ℕ, _+_, _≤_, _<_}
+use Rattle.rules.specs.declared.Chosen.{Chosen}
 use Rattle.rules.specs.declared.Terms.{Terms}
 use Rattle.rules.specs.declared.Setup.{Setup}
 use Rattle.rules.specs.Count.{sumUpTo}
@@ -31,11 +32,12 @@ pub record KeptBut (t u : Setup) : Type 0 where
 pub record ClosingBid (s : List ℕ) (t : Terms) (cs : List Call) : Type 0 where
   pub before : List Call
   pub draw : List ℕ
+  pub overrides : List Chosen
   pub rest : List Call
-  pub split : cs ≡ before ++ (calculates draw ∷ rest)
+  pub split : cs ≡ before ++ (calculates draw overrides ∷ rest)
   pub bidding : isOpen (loaded (run s before)) ≡ true
-  pub accepted : calculateNumber (run s before) draw ≡ 0
-  pub closing : Closed (after (run s before) (calculates draw))
+  pub accepted : calculateNumber (run s before) draw overrides ≡ 0
+  pub closing : Closed (after (run s before) (calculates draw overrides))
   pub asked : (b : ℕ) → b < t .bidders
       → sumUpTo (λ p. bidIn (bidOn (loaded (run s before)) b p)) (t .products) ≤ sumUpTo (λ p. awardOn (run s cs) b p) (t .products)
 

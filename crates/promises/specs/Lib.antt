@@ -3,3 +3,5 @@ pub mod Hires
 pub mod Offered
 pub mod Awards
 pub mod Demands
+pub mod Marks
+pub mod Earlier

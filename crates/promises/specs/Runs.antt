@@ -4,6 +4,7 @@ use mathlib.Core.List.{List, [], _∷_, _++_}
 use Prim.Native.Nat.{ℕ, min}
 use lib.Dec.{eqb}
 use Rattle.rules.specs.declared.Tranches.{Tranches}
+use Rattle.rules.specs.declared.Chosen.{Chosen}
 use Rattle.rules.specs.declared.Settings.{Settings}
 use Rattle.rules.specs.declared.Setup.{Setup}
 use Rattle.rules.specs.declared.Auction.{Auction}
@@ -29,16 +30,18 @@ filledPart a p = min (held (a .records) (a .terms .bidders) p) (targetOf (setup 
 
 -- ---- the rounds of a run
 
--- a round calculated: the auction with its cards, and the draw
+-- a round calculated: the auction with its cards, the draw and the overrides
 pub record Round : Type 0 where
   pub auction : Auction
   pub draw : List ℕ
+  pub overrides : List Chosen
 
 abbrev pub roundOf : List ℕ → Call → List Round
 roundOf s (opens x) = []
 roundOf s (files c) = []
 roundOf s counts = []
-roundOf s (calculates draw) = cond (eqb (calculateNumber s draw) 0) (record { auction = loaded s; draw = draw } ∷ []) []
+roundOf s (calculates draw os) =
+    cond (eqb (calculateNumber s draw os) 0) (record { auction = loaded s; draw = draw; overrides = os } ∷ []) []
 roundOf s (cuts targets caps) = []
 roundOf s (reports b) = []
 roundOf s results = []
@@ -62,7 +65,7 @@ abbrev pub cutbackOf : List ℕ → Call → List Cutback
 cutbackOf s (opens x) = []
 cutbackOf s (files c) = []
 cutbackOf s counts = []
-cutbackOf s (calculates draw) = []
+cutbackOf s (calculates draw os) = []
 cutbackOf s (cuts targets caps) = cond (eqb (cutbackNumber s targets caps) 0) (record { targets = targets; caps = caps } ∷ []) []
 cutbackOf s (reports b) = []
 cutbackOf s results = []

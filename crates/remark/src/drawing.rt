@@ -1,8 +1,11 @@
-// The draw order: 14.
+// The draw order and the overrides: 14 and 19.
 use crate::last_of;
 use crate::of_phase;
+use crate::put_outside;
 use crate::wide;
 use layout::STATE;
+use rules::Chosen;
+use rules::Override;
 use table::is_drawn;
 use table::is_known;
 use table::times_drawn;
@@ -83,9 +86,46 @@ fn put_draw(out: &mut [u8; ANSWER], at: usize, draw: &[u8], bidders: usize) -> u
     put_form(out, c, b"; the bidders are 0 to #", &numbers)
 }
 
-pub fn of_draw(out: &mut [u8; ANSWER], at: usize, n: u8, s: &[u8; STATE], draw: &[u8]) -> usize {
-    if n == 14 {
-        return put_draw(out, at, draw, book::bidders(s));
+fn put_override(out: &mut [u8; ANSWER], at: usize, p: usize, given: Override) -> usize {
+    match given {
+        Override::None => at,
+        Override::Points(by) => put_outside(
+            out,
+            at,
+            b": product %, # basis points",
+            p as u64,
+            by.0 as u32,
+            Override::limits(),
+        ),
     }
-    of_phase(out, at, n, s)
+}
+
+// The first that is outside its limits.
+fn put_overrides(out: &mut [u8; ANSWER], at: usize, overrides: [Chosen; 8]) -> usize {
+    let mut p: usize = 0;
+    while p < 8 {
+        let chosen = overrides[p];
+        let given = chosen.decrement;
+        let to = put_override(out, at, p, given);
+        if to != at {
+            return to;
+        }
+        p += 1;
+    }
+    at
+}
+
+pub fn of_round(
+    out: &mut [u8; ANSWER],
+    at: usize,
+    n: u8,
+    s: &[u8; STATE],
+    draw: &[u8],
+    overrides: [Chosen; 8],
+) -> usize {
+    match n {
+        14 => put_draw(out, at, draw, book::bidders(s)),
+        19 => put_overrides(out, at, overrides),
+        _ => of_phase(out, at, n, s),
+    }
 }

@@ -13,7 +13,7 @@ pub use cards::of_read;
 pub use cards::of_write;
 pub use cutting::of_cutback;
 pub use cutting::of_volume;
-pub use drawing::of_draw;
+pub use drawing::of_round;
 pub use opening::of_opening;
 pub use phases::of_phase;
 pub use phases::of_report;

@@ -1,16 +1,18 @@
 // Document 01, "Report and result": what one bidder is told, and what is awarded.
 ghost use mathlib.Core.Path.{_≡_};
+ghost use mathlib.Core.Bool.{false};
 ghost use Prim.Native.Nat.{ℕ, _<_, max};
 ghost use lib.ListN.{replicate};
 ghost use Rattle.rules.specs.Count.{listOf};
-ghost use Rattle.rules.specs.Units.{priceOf, quote, tranches};
+ghost use Rattle.rules.specs.Units.{priceOf, quote, goingPrice, tranches};
 ghost use Rattle.rules.specs.Held.{heldIn, recordAt};
-ghost use Rattle.rules.specs.Bid.{recordOf, priceAt};
-ghost use Rattle.rules.specs.Report.{reportOn, reportRefused, priceIf, highestIn, highestUpTo, paidOn, resultOf, resultRefused};
+ghost use Rattle.rules.specs.Bid.{recordOf};
+ghost use Rattle.rules.specs.Report.{goingOn, reportOn, reportRefused, priceIf, highestIn, highestUpTo, paidOn, resultOf, resultRefused};
 ghost use Rattle.rules.specs.Layout.{loaded};
 ghost use Rattle.book.specs.Lent.{Long, Lent};
 use rules::Award;
 use rules::Awarded;
+use rules::GoingPrice;
 use rules::Phase;
 use rules::Price;
 use rules::Quote;
@@ -44,16 +46,29 @@ fn own_records(s: &[u8], b: usize) -> [Record; 8]
     own
 }
 
-// All going prices.
-fn going_prices(s: &[u8]) -> [Quote; 8]
-    requires { ⌜ Long (now s) ⌝ }
-    ensures { λ r. ⌜ r ≡ listOf (λ p. quote (loaded (now (s .entry)) .terms .unit) (priceAt (loaded (now (s .entry))) p)) 8 ⌝ }
+fn no_prices() -> [GoingPrice; 8]
+    ensures { λ r. ⌜ r ≡ replicate 8 (goingPrice 0 0 false) ⌝ }
 {
-    let mut prices = no_quotes();
+    [GoingPrice {
+        price: Price::of(0, 0),
+        overridden: false,
+    }; 8]
+}
+
+// All going prices, each "with whether it was overridden".
+fn going_prices(s: &[u8]) -> [GoingPrice; 8]
+    requires { ⌜ Long (now s) ⌝ }
+    ensures { λ r. ⌜ r ≡ listOf (goingOn (loaded (now (s .entry)))) 8 ⌝ }
+{
+    let mut prices = no_prices();
     let mut p: usize = 0;
     while p < 8 {
         let x = book::price(s, p);
-        prices[p] = Quote { price: x };
+        let overridden = book::mark(s, p) > 0;
+        prices[p] = GoingPrice {
+            price: x,
+            overridden,
+        };
         p += 1;
     }
     prices
@@ -81,7 +96,7 @@ pub fn refused_report(number: u8) -> Reported
     ensures { λ r. ⌜ r ≡ reportRefused number ⌝ }
 {
     let records = [Record::none(); 8];
-    let prices = no_quotes();
+    let prices = no_prices();
     Reported {
         report: Report::Refused(number),
         records,

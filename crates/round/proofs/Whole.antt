@@ -6,26 +6,28 @@ use Prim.Native.Nat.{ℕ, _+_, _*_, _≤_}
 use native.Mathlib.Omega.{arith}
 use borrow.Author.Tests.{eq-eqb, ne-eqb}
 use lib.Dec.{eqb}
-use lib.ListN.{replicate}
+use lib.ListN.{getD, replicate}
 use Rattle.rules.specs.declared.Tranches.{Tranches}
+use Rattle.rules.specs.declared.Chosen.{Chosen}
+use Rattle.rules.specs.declared.Lane.{Lane}
 use Rattle.rules.specs.declared.Place.{Place}
 use Rattle.rules.specs.declared.Kept.{Kept}
 use Rattle.rules.specs.declared.Outbid.{Outbid}
 use Rattle.rules.specs.declared.Auction.{Auction}
 use Rattle.rules.specs.Count.{sumUpTo}
 use Rattle.rules.specs.Units.{tranches}
-use Rattle.rules.specs.Parts.{tranchesAt, withRound, withLanes, withPrices}
+use Rattle.rules.specs.Parts.{tranchesAt, laneAt, marked, withRound, withLanes, withPrices, withMarks}
 use Rattle.rules.specs.Settings.{setup, targetOf}
 use Rattle.rules.specs.Answers.{bidsOpen, closed, stopped}
 use Rattle.rules.specs.Held.{nothing, heldIn, excess, ticked}
 use Rattle.rules.specs.Accept.{placeAt, acceptedAll, column, every, leftOf, heldOf, keptOf}
 use Rattle.rules.specs.Keep.{kept, keptAll}
 use Rattle.rules.specs.Outbid.{deemedUpTo, outbid, outbidAll}
-use Rattle.rules.specs.Round.{drawn, atRest, onward, stops, settled, afterStep2, afterStep4, calculated}
+use Rattle.rules.specs.Round.{drawn, booked, atRest, priceNext, markNext, beforeNext, onward, stops, settled, afterStep2, afterStep4, calculated}
 use Rattle.rules.specs.Layout.{loaded, stored}
 use Rattle.rules.proofs.Sums.{sum-ext}
-use Rattle.rules.proofs.Lists.{list-at}
-use Rattle.rules.proofs.Parts.{prices-ext, free-anew, free-setup}
+use Rattle.rules.proofs.Lists.{list-at, list-ext}
+use Rattle.rules.proofs.Parts.{prices-ext, price-stays, before-stays, marks-setup, free-anew, free-setup}
 use Rattle.book.specs.Lent.{Counts}
 use Rattle.held.specs.Ticks.{Ticks}
 use Rattle.table.specs.Drawn.{Drawn}
@@ -35,8 +37,8 @@ use Rattle.storing.specs.Written.{amountAt}
 use Rattle.prices.specs.declared.Lanes.{Lanes}
 use Rattle.prices.specs.declared.Outlook.{Outlook}
 use Rattle.prices.specs.Outlook.{Foresees, Shows}
-use Rattle.prices.proofs.Laws.{over-of, stops-of, price-of, before-of}
-use Rattle.round.specs.Ready.{LanesOf, Ready, Calculates}
+use Rattle.prices.proofs.Laws.{over-of, stops-of, price-of, mark-of, before-of}
+use Rattle.round.specs.Ready.{LanesOf, opensWith, Ready, Calculates}
 use Rattle.round.proofs.Bids.{drawn-all}
 use Rattle.round.proofs.Same.{deemed-same, keep-same, outbid-same}
 
@@ -47,13 +49,16 @@ module _ (a : Auction) (ps : List Place) (free : List Tranches) (holds : List �
   abbrev o : Outbid
   o = outbid ps free 0
 
+  abbrev os : List Chosen
+  os = l .overrides
+
   abbrev rest : Auction
   rest = atRest closed a o
 
   -- the book at rest has the settings of before, and its records are those of the places
   shows : Shows a rest holds l
   shows =
-      let t : setup rest ≡ setup a = free-setup a _ in
+      let t : setup rest ≡ setup a = marks-setup (booked a o) (λ p. 0) ∙ free-setup a _ in
       let c = C .bidders in
       record {
         terms = refl;
@@ -61,7 +66,11 @@ module _ (a : Auction) (ps : List Place) (free : List Tranches) (holds : List �
         round = refl;
         held = λ p h. H .sums .each p h ∙ ap (column heldOf ps p) en ∙ sym (sum-ext _ _ (a .terms .bidders) (λ b k.
             ap heldIn (list-at (λ k. placeAt ps k .holds) nothing 256 (b * 8 + p) (omega arith))));
-        lanes = record { target = λ p h. L .target p h ∙ ap (λ t. targetOf t p) (sym t); price = L .price; before = L .before };
+        lanes = record {
+          target = λ p h. L .target p h ∙ ap (λ t. targetOf t p) (sym t);
+          price = λ p h. L .price p h ∙ sym (price-stays (booked a o) (λ p. 0) p h);
+          before = λ p h. L .before p h ∙ sym (before-stays (booked a o) (λ p. 0) p h);
+        };
       }
 
   module _ {r : Outlook} (F : Foresees a holds l r) {f : ℕ} (e : f ≡ sumUpTo (tranchesAt free) n) where
@@ -70,23 +79,30 @@ module _ (a : Auction) (ps : List Place) (free : List Tranches) (holds : List �
         let c = C .bidders in
         sym (ap₂ _+_ (over-of F shows (C .products)) (e ∙ ap (sumUpTo (tranchesAt free)) en ∙ sym (sum-ext _ _ (a .terms .bidders) (λ b k. free-anew a (tranchesAt free) b (omega arith)))))
 
-    pub ends : r .over + f ≡ 0 → rest ≡ settled a o
-    ends z = sym (ap (λ t. cond t rest (cond (stops rest) (atRest stopped a o) (onward rest))) (eq-eqb _ _ (excess-is ∙ z)))
+    pub ends : r .over + f ≡ 0 → rest ≡ settled a os o
+    ends z = sym (ap (λ t. cond t rest (cond (stops rest) (atRest stopped a o) (onward os rest))) (eq-eqb _ _ (excess-is ∙ z)))
 
     module _ (h : r .over + f ≡ 0 → ⊥) where
+      -- the prices, and then the marks
+      lanes-next : withMarks (withPrices rest (amountAt (r .price)) (amountAt (r .before))) (λ p. getD (r .mark) p 0) .lanes
+          ≡ withMarks (withPrices rest (priceNext os rest) (beforeNext rest)) (markNext os rest) .lanes
+      lanes-next =
+          ap (λ (ls : List Lane). withMarks (withLanes rest ls) (λ p. getD (r .mark) p 0) .lanes)
+          (prices-ext rest (amountAt (r .price)) (amountAt (r .before)) _ _ (price-of F shows (C .products)) (before-of F shows (C .products)))
+          ∙ list-ext _ _ 8 (λ p h. ap (marked (laneAt (withPrices rest (priceNext os rest) (beforeNext rest)) p)) (mark-of F shows (C .products) p h))
+
       some : eqb (excess rest) 0 ≡ false
       some = ne-eqb _ _ (λ z. h (sym excess-is ∙ z))
 
-      pub stops-here : r .stops ≡ true → atRest stopped a o ≡ settled a o
+      pub stops-here : r .stops ≡ true → atRest stopped a o ≡ settled a os o
       stops-here s =
-          sym (ap₂ (λ t u. cond t rest (cond u (atRest stopped a o) (onward rest))) some (sym (stops-of F shows (C .products)) ∙ s))
+          sym (ap₂ (λ t u. cond t rest (cond u (atRest stopped a o) (onward os rest))) some (sym (stops-of F shows (C .products)) ∙ s))
 
       pub goes-on : r .stops ≡ false → (n : ℕ) → n ≡ a .round
-          → withPrices (withRound (atRest bidsOpen a o) (n + 1)) (amountAt (r .price)) (amountAt (r .before)) ≡ settled a o
+          → opensWith rest (n + 1) (amountAt (r .price)) (amountAt (r .before)) (λ p. getD (r .mark) p 0) ≡ settled a os o
       goes-on s n g =
-          (λ i. withLanes (withRound (atRest bidsOpen a o) (g i + 1))
-          (prices-ext a (amountAt (r .price)) (amountAt (r .before)) _ _ (price-of F shows (C .products)) (before-of F shows (C .products)) i))
-          ∙ sym (ap₂ (λ t u. cond t rest (cond u (atRest stopped a o) (onward rest))) some (sym (stops-of F shows (C .products)) ∙ s))
+          (λ i. withLanes (withRound (atRest bidsOpen a o) (g i + 1)) (lanes-next i))
+          ∙ sym (ap₂ (λ t u. cond t rest (cond u (atRest stopped a o) (onward os rest))) some (sym (stops-of F shows (C .products)) ∙ s))
 
 -- ---- the steps before it
 
@@ -131,15 +147,15 @@ module _ (s order : List ℕ) (R : Ready s order) where
     pub drawn-by : Drawn n order
     drawn-by = rw en (drawn-all (a .terms .bidders) order (R .stands .limits .bidders) (R .draw))
 
-    pub calculates : (ticks : List ℕ) (l : Lanes) → Ticks ticks a → LanesOf l a
+    pub calculates : (ticks : List ℕ) (l : Lanes) {os : List Chosen} → Ticks ticks a → LanesOf l a → l .overrides ≡ os
         → (p₁ p₂ p₃ p₄ : List Place) (k o : ℕ) (free : List Tranches)
         → p₁ ≡ acceptedAll a
         → kept p₂ k ≡ keptAll m n (targetOn (l .target)) (isOne ticks) (drawn order) p₁
         → p₃ ≡ deemedUpTo (isOne ticks) p₂ (n * 8)
         → outbid p₄ free o ≡ outbidAll m n (targetOn (l .target)) (isOne ticks) (drawn order) p₃ (replicate 32 (tranches 0))
-        → {z : List ℕ} → z ≡ stored (settled a (outbid p₄ free 0)) → Calculates s order (record { kept = k; outbid = o }) z
+        → {z : List ℕ} → z ≡ stored (settled a (l .overrides) (outbid p₄ free 0)) → Calculates s order os (record { kept = k; outbid = o }) z
     unfolding calculated
-    calculates ticks l T G p₁ p₂ p₃ p₄ k o free e₁ e₂ e₃ e₄ h =
+    calculates ticks l T G g p₁ p₂ p₃ p₄ k o free e₁ e₂ e₃ e₄ h =
         let step-2 : kept p₂ k ≡ afterStep2 a order =
         kept-is a order ticks l T G (R .stands .limits .products) (kept p₂ k) p₁ e₁ (rw (em, en) at e₂) in
         let step-4 : outbid p₄ free o ≡ afterStep4 a order (afterStep2 a order .places) =
@@ -147,5 +163,5 @@ module _ (s order : List ℕ) (R : Ready s order) where
         record {
           kept = ap (λ k. k .count) step-2;
           outbid = ap (λ o. o .count) step-4;
-          bytes = h ∙ ap (λ o. stored (settled a o)) step-4;
+          bytes = h ∙ ap₂ (λ os o. stored (settled a os o)) g step-4;
         }

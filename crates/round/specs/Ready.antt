@@ -5,6 +5,9 @@ use mathlib.Core.List.{List}
 use Prim.Native.Nat.{ℕ, _≤_, _<_}
 use lib.ListN.{length}
 use Rattle.rules.specs.declared.Auction.{Auction}
+use Rattle.rules.specs.declared.Chosen.{Chosen}
+use Rattle.rules.specs.Answers.{bidsOpen}
+use Rattle.rules.specs.Parts.{withPhase, withRound, withPrices, withMarks}
 use Rattle.rules.specs.Settings.{setup, targetOf}
 use Rattle.rules.specs.Bid.{priceAt, beforeAt}
 use Rattle.rules.specs.Legal.{isOpen}
@@ -20,6 +23,10 @@ use Rattle.round.specs.declared.Tally.{Tally}
 -- the targets and prices of a
 abbrev pub LanesOf : Lanes → Auction → Type 0
 LanesOf l a = Listed l (targetOf (setup a)) (priceAt a) (beforeAt a)
+
+-- the round opens at the prices x and y, with the marks m
+abbrev pub opensWith : Auction → ℕ → (ℕ → ℕ) → (ℕ → ℕ) → (ℕ → ℕ) → Auction
+opensWith a round x y m = withMarks (withPrices (withRound (withPhase a bidsOpen) round) x y) m
 
 -- the state whose bids are accepted, its ticks, and the table for them
 pub record Accepting (s marks : List ℕ) (ps : List (List ℕ)) : Type 0 where
@@ -42,7 +49,7 @@ pub record Ready (s order : List ℕ) : Type 0 where
   pub draw : drawFits (loaded s .terms .bidders) order ≡ true
 
 -- z are the bytes after
-pub record Calculates (s draw : List ℕ) (r : Tally) (z : List ℕ) : Type 0 where
-  pub kept : r .kept ≡ calculated (loaded s) draw .kept
-  pub outbid : r .outbid ≡ calculated (loaded s) draw .outbid
-  pub bytes : z ≡ stored (calculated (loaded s) draw .auction)
+pub record Calculates (s draw : List ℕ) (os : List Chosen) (r : Tally) (z : List ℕ) : Type 0 where
+  pub kept : r .kept ≡ calculated (loaded s) draw os .kept
+  pub outbid : r .outbid ≡ calculated (loaded s) draw os .outbid
+  pub bytes : z ≡ stored (calculated (loaded s) draw os .auction)

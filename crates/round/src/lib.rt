@@ -5,17 +5,20 @@ ghost use mathlib.Core.Bool.{cond};
 ghost use Prim.Native.Nat.{_≤_};
 ghost use Rattle.rules.specs.Units.{amountOf};
 ghost use Rattle.rules.specs.Count.{sumUpTo};
-ghost use Rattle.rules.specs.Parts.{tranchesAt, noCards, withCards};
+ghost use Rattle.rules.specs.Parts.{tranchesAt, noCards, unmarked, withCards};
 ghost use Rattle.rules.specs.Bid.{defaultLine};
 ghost use Rattle.rules.specs.Accept.{accepted, acceptedAll};
 ghost use Rattle.rules.specs.Outbid.{outbid};
 ghost use Rattle.rules.specs.Round.{booked, settled};
 ghost use Rattle.rules.specs.Layout.{loaded, stored};
 ghost use Rattle.book.specs.Lent.{Long};
+ghost use lib.ListN.{getD};
 ghost use Rattle.table.specs.Rows.{placesIn};
-ghost use Rattle.round.specs.Ready.{Accepting, LanesOf, Settling, Ready, Calculates};
+ghost use Rattle.storing.specs.Written.{Writes, amountAt};
+ghost use Rattle.round.specs.Ready.{Accepting, LanesOf, opensWith, Settling, Ready, Calculates};
 use prices::Lanes;
 use rules::CLOSED;
+use rules::Chosen;
 use rules::Line;
 use rules::Lot;
 use rules::OPEN;
@@ -85,11 +88,11 @@ fn accept_all(s: &[u8], ticks: &[u8; 8], ps: &mut [[u32; WIDTH]; 256])
     }
 }
 
-// ---- The targets and prices that the round goes by
+// ---- The targets, prices and overrides that the round goes by
 
-fn lanes_of(s: &[u8]) -> Lanes
+fn lanes_of(s: &[u8], overrides: [Chosen; 8]) -> Lanes
     requires { ⌜ Long (now s) ⌝ }
-    ensures { λ r. ⌜ LanesOf r (loaded (now (s .entry))) ⌝ }
+    ensures { λ r. ⌜ LanesOf r (loaded (now (s .entry))) × (r .overrides ≡ overrides) ⌝ }
 {
     let none = Quote {
         price: Price::of(0, 0),
@@ -110,6 +113,7 @@ fn lanes_of(s: &[u8]) -> Lanes
         target,
         price,
         before,
+        overrides,
     }
 }
 
@@ -130,23 +134,35 @@ fn all_free(free: [Tranches; 32], bidders: usize) -> u64
     sum
 }
 
-// The book after step 4, at the same round and prices, with no cards.
+// The book after step 4, at the same round and prices, with no cards and no marks.
 fn rest(s: &mut [u8], ps: &[[u32; WIDTH]; 256], free: [Tranches; 32])
     requires { ⌜ Long (now s) ⌝ }
-    ensures { λ _. ⌜ now (s .exit) ≡ stored (withCards (booked (loaded (now (s .entry))) (outbid (placesIn (now (ps .entry))) free 0)) noCards) ⌝ }
+    ensures { λ _. ⌜ now (s .exit) ≡ stored (withCards (unmarked (booked (loaded (now (s .entry))) (outbid (placesIn (now (ps .entry))) free 0))) noCards) ⌝ }
 {
     let _ = storing::as_stored(s);
     storing::filed(s, 0);
     storing::free(s, free);
     storing::records(s, ps);
     storing::no_lines(s);
+    storing::no_marks(s);
+}
+
+// "prices fall and the next round opens"
+fn open_next(s: &mut [u8], round: u16, price: [Quote; 8], before: [Quote; 8], mark: [u8; 8])
+    requires { ⌜ Long (now s) ⌝ }
+    ensures { λ _. ⌜ Writes (now (s .entry)) (now (s .exit)) (λ a. opensWith a round (amountAt price) (amountAt before) (λ p. getD mark p 0)) ⌝ }
+{
+    storing::phase(s, OPEN);
+    storing::round(s, round);
+    storing::prices(s, price, before);
+    storing::marks(s, mark);
 }
 
 // "If it is 0 the auction is closed. Otherwise, .. it is stopped. Otherwise prices fall and the next round opens." The excess, the
-// stop and the prices are worked out before the book is written.
+// stop, the prices and the marks are worked out before the book is written.
 fn settle(s: &mut [u8], ps: &[[u32; WIDTH]; 256], free: [Tranches; 32], l: Lanes)
     requires { ⌜ Settling (now s) l ⌝ }
-    ensures { λ _. ⌜ now (s .exit) ≡ stored (settled (loaded (now (s .entry))) (outbid (placesIn (now (ps .entry))) free 0)) ⌝ }
+    ensures { λ _. ⌜ now (s .exit) ≡ stored (settled (loaded (now (s .entry))) (l .overrides) (outbid (placesIn (now (ps .entry))) free 0)) ⌝ }
 {
     let bidders = book::bidders(s);
     let held = table::held_all(ps, bidders);
@@ -154,6 +170,7 @@ fn settle(s: &mut [u8], ps: &[[u32; WIDTH]; 256], free: [Tranches; 32], l: Lanes
     let stops = next.stops;
     let price = next.price;
     let before = next.before;
+    let mark = next.mark;
     // "Total excess supply = the standings above zero, summed, plus all f."
     let excess = next.over + all_free(free, bidders);
     let round = book::round(s) + 1;
@@ -166,9 +183,7 @@ fn settle(s: &mut [u8], ps: &[[u32; WIDTH]; 256], free: [Tranches; 32], l: Lanes
         storing::phase(s, STOPPED);
         return;
     }
-    storing::phase(s, OPEN);
-    storing::round(s, round);
-    storing::prices(s, price, before);
+    open_next(s, round, price, before, mark);
 }
 
 // ---- The whole
@@ -179,13 +194,13 @@ pub struct Tally {
     pub outbid: u32,
 }
 
-pub fn calculate(s: &mut [u8], draw: &[u8]) -> Tally
+pub fn calculate(s: &mut [u8], draw: &[u8], overrides: [Chosen; 8]) -> Tally
     requires { ⌜ Ready (now s) (now draw) ⌝ }
-    ensures { λ r. ⌜ Calculates (now (s .entry)) (now (draw .entry)) r (now (s .exit)) ⌝ }
+    ensures { λ r. ⌜ Calculates (now (s .entry)) (now (draw .entry)) overrides r (now (s .exit)) ⌝ }
 {
     let products = book::products(s);
     let bidders = book::bidders(s);
-    let lanes = lanes_of(s);
+    let lanes = lanes_of(s, overrides);
     let targets = lanes.target;
     let ticks = held::ticks(s);
     let mut ps = [[0u32; WIDTH]; 256];

@@ -14,7 +14,7 @@ use Rattle.rules.specs.Answers.{closed, stopped}
 use Rattle.rules.specs.Settings.{setup, targetOf, capOf, startOf, initialOf, decrementOf}
 use Rattle.rules.specs.Card.{noLine, lineFits, lineZero}
 use Rattle.rules.specs.Held.{goingIn, deniedIn, retainedIn, exitIn, heldIn, recordAt, place, ticked, freeOf}
-use Rattle.rules.specs.Bid.{bidIn, withdrawnIn, exitOn, recordOf, priceAt, beforeAt, onProduct, judged, hasFiled, slotOf}
+use Rattle.rules.specs.Bid.{bidIn, withdrawnIn, exitOn, recordOf, priceAt, beforeAt, markAt, onProduct, judged, hasFiled, slotOf}
 use Rattle.rules.specs.Legal.{isOpen, recordZero, zeroFrom}
 use Rattle.rules.specs.Layout.{stored, loaded}
 use Rattle.rules.proofs.Sums.{sum-le}
@@ -98,6 +98,11 @@ module _ (a : Auction) (S : Stands a) where
       → (targetOf (setup a) p ≤ 200) × (capOf (setup a) p ≤ 200) × (startOf (setup a) p ≤ 99999) × (priceAt a p ≤ 99999) × (beforeAt a p ≤ 99999)
   product-small p h = product-by p h (ltb p (a .terms .products)) refl
 
+  mark-by : (p : ℕ) → p < 8 → (t u : Bool) → ltb p (a .terms .products) ≡ t → ltb 0 (markAt a p) ≡ u → markAt a p ≤ 1
+  mark-by p h true true e f = omega (arith, S .marks p (ltb-true _ _ e) (ltb-true _ _ f))
+  mark-by p h true false e f = omega (arith, ltb-false 0 (markAt a p) f)
+  mark-by p h false u e f = omega (arith, S .no-mark p (ltb-false _ _ e) h)
+
   bidder-by : (b : ℕ) → b < 32 → (t : Bool) → ltb b (a .terms .bidders) ≡ t → (initialOf (setup a) b ≤ 1600) × (freeOf a b ≤ 1600)
   bidder-by b h true e =
       let l = ltb-true b (a .terms .bidders) e in
@@ -177,6 +182,7 @@ module _ (a : Auction) (S : Stands a) where
     start = λ p l. omega (arith, product-small p l, start-is a p l);
     price = λ p l. omega (arith, product-small p l);
     before = λ p l. omega (arith, product-small p l);
+    mark = λ p l. omega (arith, mark-by p l (ltb p (a .terms .products)) (ltb 0 (markAt a p)) refl refl);
     initial = λ b l. omega (arith, bidder-small b l, initial-is a b l);
     free = λ b l. omega (arith, bidder-small b l);
     percent = λ i l. omega (arith, S .limits .percent i l);

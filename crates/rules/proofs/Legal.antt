@@ -4,14 +4,14 @@ use mathlib.Core.Bool.{Bool, true, false, _&&_}
 use Prim.Native.Nat.{ℕ, _+_, _*_, _/_, _%_, _≤_, _<_}
 use native.Mathlib.Omega.{arith}
 use borrow.Author.Tests.{ltb-true, ltb-false, lt-ltb, le-ltb, leb-true, leb-false, eqb-true, eq-eqb, ne-eqb}
-use lib.Dec.{eqb, ltb}
+use lib.Dec.{eqb, leb, ltb}
 use Rattle.rules.specs.declared.Record.{Record}
 use Rattle.rules.specs.declared.Setup.{Setup}
 use Rattle.rules.specs.declared.Auction.{Auction}
 use Rattle.rules.specs.Settings.{setup, withinLimits, itemWithin, bidderWithin, rowWithin, leastDecrement, targetOf, capOf, startOf, percentOf}
 use Rattle.rules.specs.Held.{retainedIn, exitIn, heldIn, recordAt, held, ticked, excess}
-use Rattle.rules.specs.Bid.{recordOf, priceAt, beforeAt, hasFiled}
-use Rattle.rules.specs.Legal.{implies, keptOn, isOpen, productStands, recordZero, recordWithin, recordStands, bidderStands, slotStands, openStands, stands}
+use Rattle.rules.specs.Bid.{recordOf, priceAt, beforeAt, markAt, hasFiled}
+use Rattle.rules.specs.Legal.{implies, keptOn, isOpen, mayHaveMark, markStands, productStands, recordZero, recordWithin, recordStands, bidderStands, slotStands, openStands, stands}
 use Rattle.rules.proofs.Sums.{and-left, and-right}
 use Rattle.rules.proofs.Lists.{both, all-give, all-take}
 use Rattle.rules.proofs.Signed.{above-true, lt-above}
@@ -125,6 +125,14 @@ module _ (a : Auction) (s : stands a ≡ true) where
         let x = rw (lt-ltb p (a .terms .products) h, lt-ltb 0 (keptOn a p) k) at (product-in p (omega (arith, limits .products))) in
         search told;
     no-price = λ p h l. let x = rw (le-ltb p (a .terms .products) h) at (product-in p l) in search told;
+    marks = λ p h k.
+        let x = rw (lt-ltb p (a .terms .products) h, lt-ltb 0 (markAt a p) k) at (product-in p (omega (arith, limits .products))) in
+        let one : markAt a p ≤ 1 = search told in
+        let over : ticked a p ≡ true = search told depth 9 in
+        let op : isOpen a ≡ true = search told depth 9 in
+        let late : 2 ≤ a .round = search told depth 9 in
+        (omega arith, op, late, above-true (held (a .records) (a .terms .bidders) p) (targetOf (setup a) p) over);
+    no-mark = λ p h l. let x = rw (le-ltb p (a .terms .products) h) at (product-in p l) in search told;
     exits = λ b p hb hp h. let x = rw (lt-ltb 0 (retainedIn (recordOf a b p)) h) at (record-of b p hb hp) in search told;
     no-exit = λ b p hb hp h. let x = rw h at (record-of b p hb hp) in search told;
     caps = λ b p hb hp. let x = record-of b p hb hp in search told;
@@ -192,8 +200,15 @@ module _ (a : Auction) (S : Stands a) where
       let k = implied (ltb 0 (keptOn a p))
       (ltb (priceAt a p) (beforeAt a p) && eqb (held (a .records) (a .terms .bidders) p) (targetOf (setup a) p)) (λ o.
       let y = S .kept p h (ltb-true 0 (keptOn a p) o) in search shown) in
+      let m : markStands a p ≡ true = implied (ltb 0 (markAt a p)) (leb (markAt a p) 1 && mayHaveMark a p) (λ o.
+      let y = S .marks p h (ltb-true 0 (markAt a p) o) in
+      let one : markAt a p ≤ 1 = omega (arith, y .0) in
+      let up = lt-above (held (a .records) (a .terms .bidders) p) (targetOf (setup a) p) (y .3) in search shown) in
       rw e (search shown)
-  product-by p l false e = let x = S .no-price p (ltb-false p (a .terms .products) e) l in rw e (search shown)
+  product-by p l false e =
+      let x = S .no-price p (ltb-false p (a .terms .products) e) l in
+      let y = S .no-mark p (ltb-false p (a .terms .products) e) l in
+      rw e (search shown)
 
   record-by : (k : ℕ) → k < 256 → (t u : Bool) → ltb (k / 8) (a .terms .bidders) ≡ t → ltb (k % 8) (a .terms .products) ≡ u
       → recordStands a k ≡ true

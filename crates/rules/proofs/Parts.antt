@@ -9,10 +9,10 @@ use Rattle.rules.specs.declared.Auction.{Auction}
 use Rattle.rules.specs.declared.Setup.{Setup}
 use Rattle.rules.specs.Count.{sumUpTo}
 use Rattle.rules.specs.Units.{tranches}
-use Rattle.rules.specs.Parts.{noLane, laneAt, priced, noSeat, seatAt, reseated, withPrices, withFree}
+use Rattle.rules.specs.Parts.{noLane, laneAt, priced, marked, noSeat, seatAt, reseated, withPrices, withMarks, withFree}
 use Rattle.rules.specs.Settings.{noItem, itemIn, setup, targetOf, capOf, startOf, initialOf}
 use Rattle.rules.specs.Held.{held, standing, aboveZero, freeOf, excess}
-use Rattle.rules.specs.Bid.{priceAt, beforeAt}
+use Rattle.rules.specs.Bid.{priceAt, beforeAt, markAt}
 use Rattle.rules.proofs.Lists.{list-at, list-ext}
 
 -- the excess goes by the settings, the records and what is free
@@ -54,6 +54,9 @@ module _ (a : Auction) where
     pub before-anew : (p : ℕ) → p < 8 → beforeAt (withPrices a x y) p ≡ y p
     before-anew p h = ap (λ l. l .before) (at p h)
 
+    pub mark-stays : (p : ℕ) → p < 8 → markAt (withPrices a x y) p ≡ markAt a p
+    mark-stays p h = ap (λ l. l .mark) (at p h)
+
     -- the same prices, product by product
     pub prices-ext : (u v : ℕ → ℕ) → ((p : ℕ) → p < 8 → x p ≡ u p) → ((p : ℕ) → p < 8 → y p ≡ v p)
         → withPrices a x y .lanes ≡ withPrices a u v .lanes
@@ -63,6 +66,25 @@ module _ (a : Auction) where
     pub prices-setup : setup (withPrices a x y) ≡ setup a
     prices-setup =
         let e = list-ext (λ p. itemIn (laneAt (withPrices a x y) p)) (λ p. itemIn (laneAt a p)) 8 (λ p h. ap itemIn (at p h)) in rw e refl
+
+  -- ---- every product with another mark
+
+  module _ (m : ℕ → ℕ) where
+    pub marked-at : (p : ℕ) → p < 8 → laneAt (withMarks a m) p ≡ marked (laneAt a p) (m p)
+    marked-at p h = list-at (λ p. marked (laneAt a p) (m p)) noLane 8 p h
+
+    pub mark-anew : (p : ℕ) → p < 8 → markAt (withMarks a m) p ≡ m p
+    mark-anew p h = ap (λ l. l .mark) (marked-at p h)
+
+    pub price-stays : (p : ℕ) → p < 8 → priceAt (withMarks a m) p ≡ priceAt a p
+    price-stays p h = ap (λ l. l .price) (marked-at p h)
+
+    pub before-stays : (p : ℕ) → p < 8 → beforeAt (withMarks a m) p ≡ beforeAt a p
+    before-stays p h = ap (λ l. l .before) (marked-at p h)
+
+    pub marks-setup : setup (withMarks a m) ≡ setup a
+    marks-setup =
+        let e = list-ext (λ p. itemIn (laneAt (withMarks a m) p)) (λ p. itemIn (laneAt a p)) 8 (λ p h. ap itemIn (marked-at p h)) in rw e refl
 
   -- ---- every bidder with other free eligibility
 

@@ -9,15 +9,15 @@ use lib.ListN.{getD}
 use Rattle.rules.specs.declared.Tranches.{Tranches}
 use Rattle.rules.specs.declared.Setup.{Setup}
 use Rattle.rules.specs.declared.Auction.{Auction}
-use Rattle.rules.specs.Parts.{noLane, laneAt, limited, withLimits, withFree}
+use Rattle.rules.specs.Parts.{noLane, laneAt, limited, withLimits, unmarked, withFree}
 use Rattle.rules.specs.Settings.{setup, item, noItem, itemIn, targetOf, capOf, startOf}
 use Rattle.rules.specs.Held.{nothing, recordAt, setTo, freeOf}
-use Rattle.rules.specs.Bid.{recordOf, priceAt, beforeAt}
+use Rattle.rules.specs.Bid.{recordOf, priceAt, beforeAt, markAt}
 use Rattle.rules.specs.Cutback.{givenFor, numbersFit, mayCut, revised, cutFrom, freeCut, reduced}
 use Rattle.rules.specs.Stands.{Stands}
 use Rattle.rules.proofs.Lists.{all-take, list-at, list-ext}
 use Rattle.rules.proofs.Tests.{told}
-use Rattle.rules.proofs.Parts.{start-is, price-anew, before-anew, prices-setup, free-anew, free-setup}
+use Rattle.rules.proofs.Parts.{start-is, price-anew, before-anew, mark-stays, prices-setup, mark-anew, marks-setup, free-anew, free-setup}
 
 -- ---- the revised settings, whatever the numbers
 
@@ -76,19 +76,27 @@ module _ (a : Auction) (targets caps : List Tranches) where
   abbrev limitsCut : Auction
   limitsCut = withLimits (withFree a (freeCut a caps)) (givenFor targets) (givenFor caps)
 
+  abbrev dropped : Auction
+  dropped = unmarked limitsCut
+
   pub price-is : (p : ℕ) → p < 8 → priceAt z p ≡ startOf (setup a) p
   unfolding reduced
-  price-is p h = price-anew limitsCut (startOf (setup a)) (startOf (setup a)) p h
+  price-is p h = price-anew dropped (startOf (setup a)) (startOf (setup a)) p h
 
   pub before-is : (p : ℕ) → p < 8 → beforeAt z p ≡ startOf (setup a) p
   unfolding reduced
-  before-is p h = before-anew limitsCut (startOf (setup a)) (startOf (setup a)) p h
+  before-is p h = before-anew dropped (startOf (setup a)) (startOf (setup a)) p h
+
+  pub mark-is : (p : ℕ) → p < 8 → markAt z p ≡ 0
+  unfolding reduced
+  mark-is p h = mark-stays dropped (startOf (setup a)) (startOf (setup a)) p h ∙ mark-anew limitsCut (λ p. 0) p h
 
   -- its settings are the revised ones
   pub reduced-setup : setup (reduced a targets caps) ≡ revised (setup a) targets caps
   unfolding reduced
   reduced-setup =
-      prices-setup limitsCut (startOf (setup a)) (startOf (setup a)) ∙ limits-setup (withFree a (freeCut a caps)) targets caps
+      prices-setup dropped (startOf (setup a)) (startOf (setup a)) ∙ marks-setup limitsCut (λ p. 0)
+      ∙ limits-setup (withFree a (freeCut a caps)) targets caps
       ∙ ap (λ u. revised u targets caps) (free-setup a (freeCut a caps))
 
   -- ---- of a standing state that may be cut back

@@ -16,7 +16,7 @@ use Rattle.rules.specs.Card.{noLine}
 use Rattle.rules.specs.Parts.{noLane, laneAt, noSeat, seatAt, noRow}
 use Rattle.rules.specs.Settings.{percentOf, decrementOf}
 use Rattle.rules.specs.Held.{nothing, goingIn, deniedIn, retainedIn, exitIn, recordAt, freeOf}
-use Rattle.rules.specs.Bid.{bidIn, withdrawnIn, exitOn, priceAt, beforeAt}
+use Rattle.rules.specs.Bid.{bidIn, withdrawnIn, exitOn, priceAt, beforeAt, markAt}
 use Rattle.rules.proofs.Lists.{list-at, list-is, list-long}
 use Rattle.rules.specs.Stands.{Long}
 
@@ -35,6 +35,7 @@ pub record Fits (a : Auction) : Type 0 where
   pub start : (p : ℕ) → p < 8 → laneAt a p .start < 16777216
   pub price : (p : ℕ) → p < 8 → priceAt a p < 16777216
   pub before : (p : ℕ) → p < 8 → beforeAt a p < 16777216
+  pub mark : (p : ℕ) → p < 8 → markAt a p < 256
   pub initial : (b : ℕ) → b < 32 → seatAt a b .initial .0 < 65536
   pub free : (b : ℕ) → b < 32 → freeOf a b < 65536
   pub percent : (i : ℕ) → i < 8 → percentOf (a .decrements) i < 65536
@@ -228,6 +229,7 @@ module _ (a : Auction) (L : Long a) (F : Fits a) where
         three-at P 2 (k + 2) (l .start) (omega arith) (omega arith) (F .start p h) refl refl refl,
         three-at P 5 (k + 5) (l .price) (omega arith) (omega arith) (F .price p h) refl refl refl,
         three-at P 8 (k + 8) (l .before) (omega arith) (omega arith) (F .before p h) refl refl refl,
+        one-at P 11 (k + 11) (l .mark) (omega arith) (omega arith) (F .mark p h) refl,
       )
 
   seat-back : (b : ℕ) → b < 32 → seatFrom (stored a) (b * bidderWidth + biddersFrom) ≡ seatAt a b

@@ -106,6 +106,10 @@ priceAt a p = laneAt a p .price
 abbrev pub beforeAt : Auction → ℕ → ℕ
 beforeAt a p = laneAt a p .before
 
+-- 1 where p was overridden, else 0
+abbrev pub markAt : Auction → ℕ → ℕ
+markAt a p = laneAt a p .mark
+
 abbrev pub onProduct : List Line → ℕ → Line
 onProduct ls p = getD ls p noLine
 

@@ -15,6 +15,7 @@ use Rattle.rules.specs.declared.CardRead.{CardRead}
 use Rattle.rules.specs.declared.Settings.{Settings}
 use Rattle.rules.specs.declared.Setup.{Setup}
 use Rattle.rules.specs.declared.Auction.{Auction}
+use Rattle.rules.specs.declared.Chosen.{Chosen}
 use Rattle.rules.specs.declared.Calculated.{Calculated}
 use Rattle.rules.specs.declared.Answer.{Answer}
 use Rattle.rules.specs.declared.Count.{Count}
@@ -33,7 +34,7 @@ use Rattle.rules.specs.Bits.{setIn}
 use Rattle.rules.specs.Card.{readCard, writeCard}
 use Rattle.rules.specs.Held.{nothing}
 use Rattle.rules.specs.Bid.{judged}
-use Rattle.rules.specs.Round.{drawFits, calculated}
+use Rattle.rules.specs.Round.{drawFits, overridesFit, calculated}
 use Rattle.rules.specs.Cutback.{mayCut, cutBack, suggestedVolume, suggestedNumber}
 use Rattle.rules.specs.Report.{reportOn, reportRefused, resultOf, resultRefused}
 use Rattle.rules.specs.Layout.{stateLength, stored, loaded, allZero}
@@ -43,7 +44,7 @@ use Rattle.rules.specs.Legal.{isOpen, stands}
 unfoldable pub opened : Setup → Auction
 opened t =
     auction bidsOpen 1 (t .terms)
-    (listOf (λ p. lane (targetOf t p) (capOf t p) (startOf t p) (startOf t p) (startOf t p)) 8)
+    (listOf (λ p. lane (targetOf t p) (capOf t p) (startOf t p) (startOf t p) (startOf t p) 0) 8)
     (listOf (λ b. seat (initialOf t b) (initialOf t b)) 32)
     (t .decrements) (replicate 256 nothing) noCards
 
@@ -107,22 +108,22 @@ toFile a = a .terms .bidders - ones (a .cards .filed)
 unfoldable pub countCall : List ℕ → Count
 countCall s = cond (eqb (countNumber s) 0) (count.ToFile (toFile (loaded s))) (count.Refused (countNumber s))
 
--- ---- calculate: 1, 2, 3, 14 "draw order wrong"
+-- ---- calculate: 1, 2, 3, 14 "draw order wrong", 19 "an override outside 1 to 1,000, after 14"
 
-abbrev pub drawNumber : List ℕ → Auction → ℕ
-drawNumber draw a = cond (isOpen a) (cond (drawFits (a .terms .bidders) draw) 0 14) 3
+abbrev pub roundNumber : List ℕ → List Chosen → Auction → ℕ
+roundNumber draw os a = cond (isOpen a) (cond (drawFits (a .terms .bidders) draw) (cond (overridesFit os) 0 19) 14) 3
 
-abbrev pub calculateNumber : List ℕ → List ℕ → ℕ
-calculateNumber s draw = ofState s 3 (drawNumber draw)
+abbrev pub calculateNumber : List ℕ → List ℕ → List Chosen → ℕ
+calculateNumber s draw os = ofState s 3 (roundNumber draw os)
 
 abbrev pub calculationDone : Calculated → Outcome Calculation
 calculationDone c = outcome (calculation.Done (c .kept) (c .outbid)) (stored (c .auction))
 
-unfoldable pub calculateCall : List ℕ → List ℕ → Outcome Calculation
-calculateCall s draw =
-    cond (eqb (calculateNumber s draw) 0)
-    (calculationDone (calculated (loaded s) draw))
-    (outcome (calculation.Refused (calculateNumber s draw)) s)
+unfoldable pub calculateCall : List ℕ → List ℕ → List Chosen → Outcome Calculation
+calculateCall s draw os =
+    cond (eqb (calculateNumber s draw os) 0)
+    (calculationDone (calculated (loaded s) draw os))
+    (outcome (calculation.Refused (calculateNumber s draw os)) s)
 
 -- ---- cutback: 1, 2, 3, 20
 

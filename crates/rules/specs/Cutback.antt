@@ -1,6 +1,6 @@
 -- Document 02, request 3: "Volume cutback after round 1." Assumes nothing.
 use mathlib.Core.Bool.{Bool, true, _&&_, cond}
-use mathlib.Core.List.{List}
+use mathlib.Core.List.{List, []}
 use Prim.Native.Nat.{ℕ, _+_, _*_, _-_, _/_, _%_}
 use lib.Dec.{leb, ltb, eqb}
 use Rattle.rules.specs.declared.Tranches.{Tranches}
@@ -8,7 +8,7 @@ use Rattle.rules.specs.declared.Setup.{Setup}
 use Rattle.rules.specs.declared.Auction.{Auction}
 use Rattle.rules.specs.Count.{sumUpTo, allUpTo, listOf}
 use Rattle.rules.specs.Answers.{stopped}
-use Rattle.rules.specs.Parts.{tranchesAt, withPhase, withPrices, withLimits, withFree, withRecords}
+use Rattle.rules.specs.Parts.{tranchesAt, withPhase, withPrices, unmarked, withLimits, withFree, withRecords}
 use Rattle.rules.specs.Settings.{item, setup, targetOf, capOf, startOf}
 use Rattle.rules.specs.Held.{goingIn, recordAt, setTo, freeOf}
 use Rattle.rules.specs.Bid.{recordOf}
@@ -87,16 +87,16 @@ abbrev pub setToCaps : Auction → List Tranches → Auction
 setToCaps a caps =
     withFree (withRecords a (listOf (λ k. setTo (recordAt (a .records) k) (givenFor caps (k % 8))) 256)) (freeCut a caps)
 
--- "the reduced book", at the starting prices, and as it is if it stops
+-- "the reduced book", at the starting prices, "overrides and their marks dropped", and as it is if it stops
 unfoldable pub reduced : Auction → List Tranches → List Tranches → Auction
 reduced a targets caps =
     withPhase (
-    withPrices (withLimits (setToCaps a caps) (givenFor targets) (givenFor caps)) (startOf (setup a)) (startOf (setup a))) stopped
+    withPrices (unmarked (withLimits (setToCaps a caps) (givenFor targets) (givenFor caps))) (startOf (setup a)) (startOf (setup a))) stopped
 
 -- "Step 5's stop applies again: the auction is then stopped in round 2, with p = q = starting price"; otherwise "Round 2 prices are
 -- worked out afresh from the starting prices and the reduced book", so that q is the starting price of every product, fallen or not
 abbrev pub settledAgain : Auction → Auction
-settledAgain z = cond (stops z) z (opensAt (z .round) z)
+settledAgain z = cond (stops z) z (opensAt [] (z .round) z)
 
 unfoldable pub cutBack : Auction → List Tranches → List Tranches → Auction
 cutBack a targets caps = settledAgain (reduced a targets caps)

@@ -44,9 +44,10 @@ headBytes a =
     byte1 (a .phase) ++ byte1 (a .terms .unit) ++ byte1 (a .terms .products) ++ byte1 (a .terms .bidders)
     ++ byte1 (a .decrements .rows) ++ bytes2 (a .round) ++ bytes2 (a .terms .statewide .0) ++ bytes4 (a .cards .filed)
 
--- target, cap; starting price 3, p 3, q 3
+-- target, cap; starting price 3, p 3, q 3; p's mark
 abbrev pub laneBytes : Lane → List ℕ
-laneBytes l = byte1 (l .target .0) ++ byte1 (l .cap .0) ++ bytes3 (l .start) ++ bytes3 (l .price) ++ bytes3 (l .before)
+laneBytes l =
+    byte1 (l .target .0) ++ byte1 (l .cap .0) ++ bytes3 (l .start) ++ bytes3 (l .price) ++ bytes3 (l .before) ++ byte1 (l .mark)
 
 -- initial eligibility 2, f 2
 abbrev pub seatBytes : Seat → List ℕ
@@ -89,7 +90,7 @@ abbrev pub termsFrom : List ℕ → Terms
 termsFrom s = record { unit = read1 s 1; products = read1 s 2; bidders = read1 s 3; statewide = tranches (read2 s 7) }
 
 abbrev pub laneFrom : List ℕ → ℕ → Lane
-laneFrom s k = lane (read1 s k) (read1 s (k + 1)) (read3 s (k + 2)) (read3 s (k + 5)) (read3 s (k + 8))
+laneFrom s k = lane (read1 s k) (read1 s (k + 1)) (read3 s (k + 2)) (read3 s (k + 5)) (read3 s (k + 8)) (read1 s (k + 11))
 
 abbrev pub seatFrom : List ℕ → ℕ → Seat
 seatFrom s k = seat (read2 s k) (read2 s (k + 2))

@@ -11,7 +11,7 @@ use Rattle.rules.specs.Answers.{bidsOpen, closed, stopped}
 use Rattle.rules.specs.Settings.{between, setup, withinLimits, targetOf, capOf, startOf, initialOf}
 use Rattle.rules.specs.Card.{lineZero}
 use Rattle.rules.specs.Held.{goingIn, deniedIn, retainedIn, exitIn, heldIn, keptIn, recordAt, held, ticked, freeOf, excess}
-use Rattle.rules.specs.Bid.{recordOf, priceAt, beforeAt, onProduct, judged, hasFiled, slotOf}
+use Rattle.rules.specs.Bid.{recordOf, priceAt, beforeAt, markAt, onProduct, judged, hasFiled, slotOf}
 use Rattle.rules.specs.Round.{stops}
 
 abbrev pub implies : Bool → Bool → Bool
@@ -24,6 +24,14 @@ isOpen a = eqb (a .phase) bidsOpen
 abbrev pub keptOn : Auction → ℕ → ℕ
 keptOn a p = sumUpTo (λ b. keptIn (recordOf a b p)) (a .terms .bidders)
 
+-- document 02, request 1: "a standing state has its mark only on products above target in an open round from 2"
+abbrev pub mayHaveMark : Auction → ℕ → Bool
+mayHaveMark a p = isOpen a && (leb 2 (a .round) && ticked a p)
+
+-- a mark is 1
+abbrev pub markStands : Auction → ℕ → Bool
+markStands a p = implies (ltb 0 (markAt a p)) (leb (markAt a p) 1 && mayHaveMark a p)
+
 -- "1 <= p <= q, q at most the starting price"; "q > p where held exceeds target (in the open phase) or a tranche is kept";
 -- "kept tranches only where held equals target"; past the products in use 0
 abbrev pub productStands : Auction → ℕ → Bool
@@ -33,9 +41,10 @@ productStands a p =
     && (leb (priceAt a p) (beforeAt a p)
     && (leb (beforeAt a p) (startOf (setup a) p)
     && (implies (isOpen a && ticked a p) (ltb (priceAt a p) (beforeAt a p))
-    && implies (ltb 0 (keptOn a p))
-    (ltb (priceAt a p) (beforeAt a p) && eqb (held (a .records) (a .terms .bidders) p) (targetOf (setup a) p))))))
-    (eqb (priceAt a p) 0 && eqb (beforeAt a p) 0)
+    && (implies (ltb 0 (keptOn a p))
+    (ltb (priceAt a p) (beforeAt a p) && eqb (held (a .records) (a .terms .bidders) p) (targetOf (setup a) p))
+    && markStands a p)))))
+    (eqb (priceAt a p) 0 && (eqb (beforeAt a p) 0 && eqb (markAt a p) 0))
 
 abbrev pub recordZero : Record → Bool
 recordZero r = eqb (goingIn r) 0 && (eqb (deniedIn r) 0 && (eqb (retainedIn r) 0 && eqb (exitIn r) 0))

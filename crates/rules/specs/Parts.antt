@@ -22,23 +22,27 @@ tranchesAt xs n = getD xs n (tranches 0) .0
 
 -- ---- a product's lane
 
-abbrev pub lane : ℕ → ℕ → ℕ → ℕ → ℕ → Lane
-lane target cap start price before =
-    record { target = tranches target; cap = tranches cap; start = start; price = price; before = before }
+abbrev pub lane : ℕ → ℕ → ℕ → ℕ → ℕ → ℕ → Lane
+lane target cap start price before mark =
+    record { target = tranches target; cap = tranches cap; start = start; price = price; before = before; mark = mark }
 
 abbrev pub noLane : Lane
-noLane = lane 0 0 0 0 0
+noLane = lane 0 0 0 0 0 0
 
 abbrev pub laneAt : Auction → ℕ → Lane
 laneAt a p = getD (a .lanes) p noLane
 
 -- the lane at these prices
 abbrev pub priced : Lane → ℕ → ℕ → Lane
-priced l price before = lane (l .target .0) (l .cap .0) (l .start) price before
+priced l price before = lane (l .target .0) (l .cap .0) (l .start) price before (l .mark)
+
+-- the lane with this mark
+abbrev pub marked : Lane → ℕ → Lane
+marked l mark = lane (l .target .0) (l .cap .0) (l .start) (l .price) (l .before) mark
 
 -- the lane with this target and cap
 abbrev pub limited : Lane → ℕ → ℕ → Lane
-limited l target cap = lane target cap (l .start) (l .price) (l .before)
+limited l target cap = lane target cap (l .start) (l .price) (l .before) (l .mark)
 
 -- ---- a bidder's seat
 
@@ -110,6 +114,14 @@ module _ (a : Auction) where
   -- every product at the prices x and y
   abbrev pub withPrices : (ℕ → ℕ) → (ℕ → ℕ) → Auction
   withPrices x y = withLanes (listOf (λ p. priced (laneAt a p) (x p) (y p)) 8)
+
+  -- every product with the mark m
+  abbrev pub withMarks : (ℕ → ℕ) → Auction
+  withMarks m = withLanes (listOf (λ p. marked (laneAt a p) (m p)) 8)
+
+  -- no product with one
+  abbrev pub unmarked : Auction
+  unmarked = withMarks (λ p. 0)
 
   -- every product with the target x and the cap y
   abbrev pub withLimits : (ℕ → ℕ) → (ℕ → ℕ) → Auction

@@ -1,8 +1,9 @@
 -- "Report and result." Assumes nothing.
-use mathlib.Core.Bool.{cond}
+use mathlib.Core.Bool.{false, cond}
 use Prim.Native.Nat.{ℕ, zero, suc, _+_, _*_, _-_, _/_, max}
 use lib.ListN.{replicate}
 use lib.Dec.{leb, ltb, eqb}
+use Rattle.rules.specs.declared.GoingPrice.{GoingPrice}
 use Rattle.rules.specs.declared.Range.{Range}
 use Rattle.rules.specs.declared.Record.{Record}
 use Rattle.rules.specs.declared.Auction.{Auction}
@@ -11,10 +12,10 @@ use Rattle.rules.specs.declared.Reported.{Reported}
 use Rattle.rules.specs.declared.Award.the-variants as award
 use Rattle.rules.specs.declared.Awarded.{Awarded}
 use Rattle.rules.specs.Count.{listOf}
-use Rattle.rules.specs.Units.{tranches, quote}
+use Rattle.rules.specs.Units.{tranches, quote, goingPrice}
 use Rattle.rules.specs.Answers.{phaseOf}
 use Rattle.rules.specs.Held.{nothing, goingIn, deniedIn, retainedIn, exitIn, heldIn, recordAt, freeOf, excess}
-use Rattle.rules.specs.Bid.{recordOf, priceAt, beforeAt}
+use Rattle.rules.specs.Bid.{recordOf, priceAt, beforeAt, markAt}
 
 abbrev pub range : ℕ → ℕ → Range
 range low high = record { low = low; high = high }
@@ -27,16 +28,20 @@ rangeOf x =
     (cond (leb x 40) (range 31 40)
     (range (41 + (x - 41) / 5 * 5) (45 + (x - 41) / 5 * 5))))
 
+-- document 02, request 1: the price "with whether it was overridden; the round and the reports carry that on"
+abbrev pub goingOn : Auction → ℕ → GoingPrice
+goingOn a p = goingPrice (a .terms .unit) (priceAt a p) (ltb 0 (markAt a p))
+
 -- "A report gives a bidder its own records and f, all going prices, the phase, and a range for total excess supply"
 unfoldable pub reportOn : Auction → ℕ → Reported
 reportOn a b = record {
   report = report.Given (tranches (freeOf a b)) (phaseOf (a .phase)) (rangeOf (excess a));
   records = listOf (recordOf a b) 8;
-  prices = listOf (λ p. quote (a .terms .unit) (priceAt a p)) 8;
+  prices = listOf (goingOn a) 8;
 }
 
 abbrev pub reportRefused : ℕ → Reported
-reportRefused n = record { report = report.Refused n; records = replicate 8 nothing; prices = replicate 8 (quote 0 0) }
+reportRefused n = record { report = report.Refused n; records = replicate 8 nothing; prices = replicate 8 (goingPrice 0 0 false) }
 
 abbrev pub priceIf : ℕ → ℕ → ℕ
 priceIf n x = cond (ltb 0 n) x 0

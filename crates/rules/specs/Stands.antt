@@ -10,7 +10,7 @@ use Rattle.rules.specs.declared.Auction.{Auction}
 use Rattle.rules.specs.Count.{sumUpTo}
 use Rattle.rules.specs.Settings.{setup, withinLimits, targetOf, capOf, startOf, initialOf, percentOf, decrementOf}
 use Rattle.rules.specs.Held.{goingIn, deniedIn, retainedIn, exitIn, heldIn, recordAt, held, freeOf}
-use Rattle.rules.specs.Bid.{bidIn, withdrawnIn, exitOn, reductions, increases, wrongPriority, recordOf, priceAt, beforeAt}
+use Rattle.rules.specs.Bid.{bidIn, withdrawnIn, exitOn, reductions, increases, wrongPriority, recordOf, priceAt, beforeAt, markAt}
 use Rattle.rules.specs.Legal.{keptOn, isOpen, recordZero, slotStands, phaseStands}
 
 -- settings within limits
@@ -57,6 +57,9 @@ pub record Stands (a : Auction) : Type 0 where
   pub kept : (p : ℕ) → p < a .terms .products → 0 < keptOn a p
       → (priceAt a p < beforeAt a p) × (held (a .records) (a .terms .bidders) p ≡ targetOf (setup a) p)
   pub no-price : (p : ℕ) → a .terms .products ≤ p → p < 8 → (priceAt a p ≡ 0) × (beforeAt a p ≡ 0)
+  pub marks : (p : ℕ) → p < a .terms .products → 0 < markAt a p
+      → (markAt a p ≡ 1) × (isOpen a ≡ true) × (2 ≤ a .round) × (targetOf (setup a) p < held (a .records) (a .terms .bidders) p)
+  pub no-mark : (p : ℕ) → a .terms .products ≤ p → p < 8 → markAt a p ≡ 0
   pub exits : (b p : ℕ) → b < a .terms .bidders → p < a .terms .products → 0 < retainedIn (recordOf a b p)
       → (priceAt a p < exitIn (recordOf a b p)) × (exitIn (recordOf a b p) ≤ beforeAt a p)
   pub no-exit : (b p : ℕ) → b < a .terms .bidders → p < a .terms .products → retainedIn (recordOf a b p) ≡ 0

@@ -1,5 +1,5 @@
 -- Counters kept apart: tranches, prices of the two units, basis points. Assumes nothing.
-use mathlib.Core.Bool.{cond}
+use mathlib.Core.Bool.{Bool, cond}
 use Prim.Native.Nat.{ℕ}
 use lib.Dec.{eqb}
 use Rattle.rules.specs.declared.Tranches.{Tranches}
@@ -9,6 +9,7 @@ use Rattle.rules.specs.declared.BasisPoints.{BasisPoints}
 use Rattle.rules.specs.declared.Unit.{Unit}
 use Rattle.rules.specs.declared.Price.{Price}
 use Rattle.rules.specs.declared.Quote.{Quote}
+use Rattle.rules.specs.declared.GoingPrice.{GoingPrice}
 use Rattle.rules.specs.declared.Unit.the-variants as unit
 use Rattle.rules.specs.declared.Price.the-variants as price
 
@@ -43,3 +44,7 @@ priceOf u x = cond (eqb u 0) (price.Kwh (kwh x)) (price.MwDay (mwDay x))
 
 abbrev pub quote : ℕ → ℕ → Quote
 quote u x = record { price = priceOf u x }
+
+-- document 02, request 1: "the price with whether it was overridden"
+abbrev pub goingPrice : ℕ → ℕ → Bool → GoingPrice
+goingPrice u x t = record { price = priceOf u x; overridden = t }

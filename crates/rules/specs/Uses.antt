@@ -6,6 +6,7 @@ use Prim.Native.Nat.{ℕ}
 use lib.ListN.{length}
 use Rattle.rules.specs.declared.Tranches.{Tranches}
 use Rattle.rules.specs.declared.Line.{Line}
+use Rattle.rules.specs.declared.Chosen.{Chosen}
 use Rattle.rules.specs.declared.Settings.{Settings}
 use Rattle.rules.specs.Calls.{openCall, fileCall, calculateCall, cutbackCall, returnCall}
 
@@ -14,7 +15,7 @@ pub data Call : Type 0 where
   opens : Settings → Call
   files : List ℕ → Call
   counts : Call
-  calculates : List ℕ → Call
+  calculates : List ℕ → List Chosen → Call
   cuts : List Tranches → List Tranches → Call
   reports : ℕ → Call
   results : Call
@@ -27,7 +28,7 @@ abbrev pub after : List ℕ → Call → List ℕ
 after s (opens x) = openCall s x .bytes
 after s (files c) = fileCall s c .bytes
 after s counts = s
-after s (calculates draw) = calculateCall s draw .bytes
+after s (calculates draw os) = calculateCall s draw os .bytes
 after s (cuts targets caps) = cutbackCall s targets caps .bytes
 after s (reports b) = s
 after s results = s
@@ -40,7 +41,7 @@ abbrev pub Sized : Call → Type 0
 Sized (opens x) = (length (x .eligibility) ≡ 32) × (length (x .row) ≡ 8)
 Sized (files c) = Unit {0}
 Sized counts = Unit {0}
-Sized (calculates draw) = Unit {0}
+Sized (calculates draw os) = Unit {0}
 Sized (cuts targets caps) = Unit {0}
 Sized (reports b) = Unit {0}
 Sized results = Unit {0}

@@ -9,7 +9,7 @@ ghost use Rattle.rules.specs.Card.{noLine, lineZero};
 ghost use Rattle.rules.specs.Held.{nothing, goingIn, deniedIn, retainedIn, heldIn, keptIn, retained, denied, cancelled, deemed, switchOutbid, withdrawalOutbid, setTo};
 ghost use Rattle.rules.specs.Legal.{recordZero};
 ghost use Rattle.rules.specs.Accept.{leavingOf, movingOf, riseOf, retain, deny, cancel, deem, outbidSwitch, outbidWithdrawal};
-ghost use Rattle.rules.specs.Price.{fallen, priceFallen};
+ghost use Rattle.rules.specs.Price.{fallen, priceFallen, isGiven, overrideLimits, overrideFits, decrementBy};
 ghost use Rattle.rules.specs.Report.{rangeOf};
 
 // ---- Counters kept apart
@@ -125,6 +125,64 @@ impl Price {
 // An array holds a price inside this struct.
 pub struct Quote {
     pub price: Price,
+}
+
+// ---- Document 02, request 1: "an optional decrement", the manager's for one product in one calculation
+
+pub enum Override {
+    None,
+    Points(BasisPoints),
+}
+
+impl Override {
+    pub fn is_given(self) -> bool
+        ensures { λ r. ⌜ r ≡ isGiven self ⌝ }
+    {
+        match self {
+            Override::None => false,
+            Override::Points(_) => true,
+        }
+    }
+
+    // "1 to 1,000 basis points".
+    pub fn limits() -> Limits
+        ensures { λ r. ⌜ r ≡ overrideLimits ⌝ }
+    {
+        Limits {
+            least: 1,
+            most: 1000,
+        }
+    }
+
+    pub fn fits(self) -> bool
+        ensures { λ r. ⌜ r ≡ overrideFits self ⌝ }
+    {
+        match self {
+            Override::None => true,
+            Override::Points(by) => Override::limits().holds(by.0 as u32),
+        }
+    }
+
+    // The manager's decrement, or the table's where none is given.
+    pub fn or(self, table: BasisPoints) -> BasisPoints
+        ensures { λ r. ⌜ r .0 ≡ decrementBy self (table .0) ⌝ }
+    {
+        match self {
+            Override::None => table,
+            Override::Points(by) => by,
+        }
+    }
+}
+
+// An array holds an override inside this struct.
+pub struct Chosen {
+    pub decrement: Override,
+}
+
+// A price, "with whether it was overridden".
+pub struct GoingPrice {
+    pub price: Price,
+    pub overridden: bool,
 }
 
 // ---- What a number may be
@@ -378,13 +436,14 @@ pub struct Terms {
     pub statewide: Tranches,
 }
 
-// One product: its settings, the going price p and the price q before its latest fall.
+// One product: its settings, the going price p, the price q before its latest fall, and 1 where p was overridden.
 pub struct Lane {
     pub target: Tranches,
     pub cap: Tranches,
     pub start: u32,
     pub price: u32,
     pub before: u32,
+    pub mark: u8,
 }
 
 // One bidder: its initial eligibility, and f.
@@ -626,7 +685,7 @@ pub enum Report {
 pub struct Reported {
     pub report: Report,
     pub records: [Record; 8],
-    pub prices: [Quote; 8],
+    pub prices: [GoingPrice; 8],
 }
 
 pub enum Award {

@@ -6,6 +6,7 @@ use rules::Answer;
 use rules::Awarded;
 use rules::Calculation;
 use rules::CardRead;
+use rules::Chosen;
 use rules::Count;
 use rules::Line;
 use rules::Reported;
@@ -71,13 +72,18 @@ pub fn file(one: &mut [u8], other: &mut [u8], card: &[u8]) -> Answers
     }
 }
 
-pub fn calculate(one: &mut [u8], other: &mut [u8], draw: &[u8]) -> Calculations
+pub fn calculate(
+    one: &mut [u8],
+    other: &mut [u8],
+    draw: &[u8],
+    overrides: [Chosen; 8],
+) -> Calculations
     requires { ⌜ now one ≡ now other ⌝ }
     ensures { λ r. ⌜ (r .one ≡ r .other) × (now (one .exit) ≡ now (other .exit)) ⌝ }
 {
     Calculations {
-        one: console::calculate(one, draw),
-        other: console::calculate(other, draw),
+        one: console::calculate(one, draw, overrides),
+        other: console::calculate(other, draw, overrides),
     }
 }
 

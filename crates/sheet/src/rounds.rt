@@ -163,6 +163,9 @@ fn put_row(
         price as u64,
     );
     to = put_price(out, to, book::unit(before), price);
+    if book::mark(before, p) != 0 {
+        to = put(out, to, b" overridden");
+    }
     to = put(out, to, b"</td>");
     to = cell(out, to, b"bid", m.bid);
     to = cell(out, to, b"held", held);

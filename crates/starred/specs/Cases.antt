@@ -45,7 +45,7 @@ book a b c d e f = a ∷ b ∷ replicate 6 nothing ++ c ∷ d ∷ replicate 6 no
 abbrev pub state : Setup → ℕ → ℕ → ℕ → ℕ → ℕ → ℕ → List Record → ℕ → Auction
 state t phase round p₀ p₁ q₀ q₁ rs f =
     auction phase round (t .terms)
-    (lane (targetOf t 0) (capOf t 0) (startOf t 0) p₀ q₀ ∷ lane (targetOf t 1) (capOf t 1) (startOf t 1) p₁ q₁ ∷ replicate 6 noLane)
+    (lane (targetOf t 0) (capOf t 0) (startOf t 0) p₀ q₀ 0 ∷ lane (targetOf t 1) (capOf t 1) (startOf t 1) p₁ q₁ 0 ∷ replicate 6 noLane)
     (seat 3 f ∷ seat 3 0 ∷ seat 3 0 ∷ replicate 29 noSeat)
     (t .decrements) rs noCards
 
@@ -87,7 +87,7 @@ unfoldable pub Holds : Case → Type 0
 Holds (round a x y z draw after hs e k o) =
     (judged a 0 x ∷ judged a 1 y ∷ judged a 2 z ∷ [] ≡ 0 ∷ 0 ∷ 0 ∷ [])
     × (stands (filed a x y z) ≡ true)
-    × (calculated (filed a x y z) draw ≡ figures after k o)
+    × (calculated (filed a x y z) draw [] ≡ figures after k o)
     × (stands after ≡ true)
     × (held (after .records) 3 0 ∷ held (after .records) 3 1 ∷ [] ≡ hs)
     × (excess after ≡ e)

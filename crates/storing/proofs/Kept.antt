@@ -86,7 +86,8 @@ module _ (s : List ℕ) (B : Bytes s) where
   lane p h =
       let n = p * productWidth + productsFrom in
       rw (lane-read s p h)
-      (on (on (on (on (one n refl) (one (n + 1) refl) refl) (three (n + 2) refl) refl) (three (n + 5) refl) refl) (three (n + 8) refl) refl)
+      (on (on (on (on (on (one n refl) (one (n + 1) refl) refl) (three (n + 2) refl) refl) (three (n + 5) refl) refl) (three (n + 8) refl) refl)
+      (one (n + 11) refl) refl)
 
   seat : (b : ℕ) → b < 32 → Stands (b * bidderWidth + biddersFrom) bidderWidth (seatBytes (seatAt (loaded s) b))
   seat b h = let n = b * bidderWidth + biddersFrom in rw (seat-read s b h) (on (two n refl) (two (n + 2) refl) refl)

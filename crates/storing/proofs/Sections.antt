@@ -12,12 +12,12 @@ use Rattle.rules.specs.declared.Auction.{Auction}
 use Rattle.rules.specs.declared.Setup.{Setup}
 use Rattle.rules.specs.declared.Place.{Place}
 use Rattle.rules.specs.Card.{noLine}
-use Rattle.rules.specs.Parts.{tranchesAt, noLane, laneAt, priced, limited, noSeat, seatAt, reseated, noRow, withPhase, withRound, withPrices, withLimits, withFree, withRecords}
+use Rattle.rules.specs.Parts.{tranchesAt, noLane, laneAt, priced, marked, limited, noSeat, seatAt, reseated, noRow, withPhase, withRound, withLanes, withPrices, withMarks, unmarked, withLimits, withFree, withRecords}
 use Rattle.rules.specs.Held.{recordAt, nothing}
 use Rattle.rules.specs.Accept.{placeAt}
 use Rattle.rules.specs.Calls.{opened}
 use Rattle.rules.specs.Layout.{stateLength, byte1, bytes2, bytes3, bytes4, bytesUpTo, headBytes, laneBytes, seatBytes, rowBytes, recordBytes, lineBytes, stored, headWidth, productWidth, bidderWidth, rowWidth, recordWidth, lineWidth, productsFrom, biddersFrom, rowsFrom, recordsFrom, bidsFrom}
-use Rattle.rules.proofs.Lists.{list-at}
+use Rattle.rules.proofs.Lists.{list-at, list-ext}
 use Rattle.rules.proofs.Storing.{parts-long}
 use Rattle.storing.specs.Written.{withFiled, withLines, withSlot, withoutLines, amountAt, recordsIn, each}
 use Rattle.storing.proofs.Each.{section, parts-append}
@@ -122,6 +122,17 @@ module _ (a : Auction) where
       section (lanePart a) (lanePart z) _ productWidth 5 8 (λ i. refl) (λ i. refl) (λ i. omega arith)
       (λ i h. rw (list-at (λ p. priced (laneAt a p) (amountAt ps p) (amountAt qs p)) noLane 8 i h))
       (headBytes a) (productsFrom + 5) refl _ (lanes-in a) (lanes-in z)
+
+  pub marks-written : (ms : List ℕ)
+      → each (λ p. byte1 (getD ms p 0)) (productsFrom + 11) productWidth 8 (stored a) ≡ stored (withMarks a (λ p. getD ms p 0))
+  marks-written ms =
+      let z = withMarks a (λ p. getD ms p 0) in
+      section (lanePart a) (lanePart z) (λ p. byte1 (getD ms p 0)) productWidth 11 8 (λ i. refl) (λ i. refl) (λ i. omega arith)
+      (λ i h. rw (list-at (λ p. marked (laneAt a p) (getD ms p 0)) noLane 8 i h))
+      (headBytes a) (productsFrom + 11) refl _ (lanes-in a) (lanes-in z)
+
+  pub marks-gone : withMarks a (λ p. getD (replicate 8 0) p 0) ≡ unmarked a
+  marks-gone = ap (withLanes a) (list-ext _ _ 8 (λ p h. ap (marked (laneAt a p)) (getD-replicate 8 p 0 0 h)))
 
   pub limits-written : (ts cs : List Tranches)
       → each (λ p. byte1 (tranchesAt ts p) ++ byte1 (tranchesAt cs p)) productsFrom productWidth 8 (stored a)

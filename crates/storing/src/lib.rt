@@ -5,7 +5,7 @@ ghost use Prim.Native.Nat.{_+_, _≤_, _<_};
 ghost use lib.ListN.{length, getD, take, replicate};
 ghost use lib.Seq.{sets};
 ghost use Rattle.rules.specs.declared.Auction.{Auction};
-ghost use Rattle.rules.specs.Parts.{tranchesAt, laneAt, seatAt, noRow, withPhase, withRound, withPrices, withLimits, withFree, withRecords};
+ghost use Rattle.rules.specs.Parts.{tranchesAt, laneAt, seatAt, noRow, withPhase, withRound, withPrices, withMarks, unmarked, withLimits, withFree, withRecords};
 ghost use Rattle.rules.specs.Calls.{opened};
 ghost use Rattle.rules.specs.Layout.{stateLength, productWidth, bidderWidth, rowWidth, lineWidth, productsFrom, biddersFrom, rowsFrom, byte1, bytes2, bytes3, headBytes, laneBytes, seatBytes, rowBytes, lineBytes, stored, loaded};
 ghost use Rattle.book.specs.Lent.{Long};
@@ -156,6 +156,26 @@ pub fn prices(s: &mut [u8], price: [Quote; 8], before: [Quote; 8])
     }
 }
 
+// The mark of every product: 1 where its going price was overridden.
+pub fn marks(s: &mut [u8], marks: [u8; 8])
+    requires { ⌜ Long (now s) ⌝ }
+    ensures { λ _. ⌜ Writes (now (s .entry)) (now (s .exit)) (λ a. withMarks a (λ p. getD marks p 0)) ⌝ }
+{
+    let mut p: usize = 0;
+    while p < 8 {
+        byte(s, p * layout::LANE + layout::MARK, marks[p]);
+        p += 1;
+    }
+}
+
+// No product has one.
+pub fn no_marks(s: &mut [u8])
+    requires { ⌜ Long (now s) ⌝ }
+    ensures { λ _. ⌜ Writes (now (s .entry)) (now (s .exit)) (λ a. unmarked a) ⌝ }
+{
+    marks(s, [0u8; 8]);
+}
+
 // The revised targets and caps.
 pub fn limits(s: &mut [u8], targets: [Tranches; 8], caps: [Tranches; 8])
     requires { ⌜ Long (now s) ⌝ }
@@ -206,7 +226,7 @@ fn head(s: &mut [u8], t: Setup)
     two(s, layout::STATEWIDE, t.terms.statewide.0);
 }
 
-// Both prices are the starting price.
+// Both prices are the starting price, which nobody overrode.
 fn products(s: &mut [u8], t: Setup)
     requires { ⌜ Long (now s) ⌝ }
     ensures { λ _. ⌜ now (s .exit) ≡ each (λ p. laneBytes (laneAt (opened t) p)) productsFrom productWidth 8 (now (s .entry)) ⌝ }
@@ -220,6 +240,7 @@ fn products(s: &mut [u8], t: Setup)
         three(s, from + 2, v.start);
         three(s, from + 5, v.start);
         three(s, from + 8, v.start);
+        byte(s, from + 11, 0);
         p += 1;
     }
 }

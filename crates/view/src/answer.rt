@@ -2,6 +2,7 @@
 ghost use Prim.Native.Nat.{_<_};
 use crate::bidding::put_read;
 use crate::price::put_price;
+use crate::price::put_price_end;
 use crate::price::put_unit;
 use crate::put_form;
 use crate::put_phase;
@@ -13,6 +14,7 @@ use rules::Award;
 use rules::Awarded;
 use rules::Card;
 use rules::CardRead;
+use rules::GoingPrice;
 use rules::Line;
 use rules::Phase;
 use rules::Quote;
@@ -72,10 +74,10 @@ fn put_holding(
     at: usize,
     unit: u8,
     p: usize,
-    quote: Quote,
+    going: GoingPrice,
     r: Record,
 ) -> usize {
-    let price = quote.price;
+    let price = going.price;
     let amount = price.amount();
     let numbers = [
         p as u64,
@@ -88,13 +90,15 @@ fn put_holding(
     let a = put_form(
         out,
         at,
-        b"  product % price # going # denied # retained # exit #\n    ",
+        b"  product % price # going # denied # retained # exit #",
         &numbers,
     );
-    let mut to = put_price(out, a, unit, amount);
+    let b = put_price_end(out, a, going.overridden);
+    let c = put(out, b, b"    ");
+    let mut to = put_price(out, c, unit, amount);
     if 0 < r.retained.count.0 {
-        let b = put(out, to, b"; retained at ");
-        to = put_price(out, b, unit, r.retained.exit);
+        let d = put(out, to, b"; retained at ");
+        to = put_price(out, d, unit, r.retained.exit);
     }
     put(out, to, b"\n")
 }
@@ -104,7 +108,7 @@ fn put_holdings(
     out: &mut [u8; ANSWER],
     at: usize,
     unit: u8,
-    prices: [Quote; 8],
+    prices: [GoingPrice; 8],
     records: [Record; 8],
     products: usize,
 ) -> usize {

@@ -30,6 +30,14 @@ pub fn put_amount(out: &mut [u8; ANSWER], at: usize, unit: u8, amount: u32) -> u
     put_price(out, b, unit, amount)
 }
 
+// The end of a line with a product's price: ` overridden`, where the price was worked out by the manager's decrement.
+pub fn put_price_end(out: &mut [u8; ANSWER], at: usize, overridden: bool) -> usize {
+    if overridden {
+        return put(out, at, b" overridden\n");
+    }
+    put(out, at, b"\n")
+}
+
 // The unit that prices are counted in.
 pub fn put_unit(out: &mut [u8; ANSWER], at: usize, unit: u8) -> usize {
     if unit == 0 {

@@ -26,7 +26,7 @@ refused 15 a setting outside the limits\n\
 refused 16 auction not closed\n\
 refused 17 a state byte isn't zero\n\
 refused 18 open in round 1\n\
-refused 19\n\
+refused 19 an override outside 1 to 1,000\n\
 refused 20 a condition on the cutback not met\n\
 refused 21\n\
 refused 22\n\

@@ -2,9 +2,11 @@
 ghost use Prim.Native.Nat.{_<_};
 use crate::price::put_amount;
 use crate::price::put_points;
+use crate::price::put_price_end;
 use crate::price::put_unit;
 use crate::put_form;
 use layout::STATE;
+use rules::Chosen;
 use rules::Phase;
 use story::Moves;
 use text::ANSWER;
@@ -206,7 +208,7 @@ fn put_standing(out: &mut [u8; ANSWER], at: usize, s: &[u8; STATE], p: usize, pr
     } else {
         to = put_amount(out, to, unit, price);
     }
-    put(out, to, b"\n")
+    put_price_end(out, to, book::mark(s, p) != 0)
 }
 
 // `from` has the price of each product that the round went by.
@@ -321,11 +323,50 @@ fn put_total(out: &mut [u8; ANSWER], at: usize, s: &[u8; STATE]) -> usize {
     put_line_now(out, a, s)
 }
 
-// A calculation, by the state before it and the state that it left.
+// Why an override that was given is not used.
+fn put_idle(out: &mut [u8; ANSWER], at: usize, s: &[u8; STATE], p: usize) -> usize {
+    let numbers = [p as u64];
+    let a = put_form(
+        out,
+        at,
+        b"  the override of product % does nothing: ",
+        &numbers,
+    );
+    if book::products(s) <= p {
+        return put(out, a, b"there is no such product\n");
+    }
+    if is_open(s) {
+        return put(out, a, b"it is not above target\n");
+    }
+    put(out, a, b"no price falls\n")
+}
+
+// The overrides that the state after the round has no mark of.
+fn put_all_idle(
+    out: &mut [u8; ANSWER],
+    at: usize,
+    s: &[u8; STATE],
+    overrides: [Chosen; 8],
+) -> usize {
+    let mut to = at;
+    let mut p = 0;
+    while p < 8 {
+        let chosen = overrides[p];
+        let by = chosen.decrement;
+        if by.is_given() & (book::mark(s, p) == 0) {
+            to = put_idle(out, to, s, p);
+        }
+        p += 1;
+    }
+    to
+}
+
+// A calculation, by the state before it, the overrides that it was given and the state that it left.
 pub fn put_calculated(
     out: &mut [u8; ANSWER],
     at: usize,
     before: &[u8; STATE],
+    overrides: [Chosen; 8],
     after: &[u8; STATE],
 ) -> usize {
     let numbers = [book::round(before) as u64];
@@ -334,8 +375,9 @@ pub fn put_calculated(
     let c = if a == b { put(out, a, b"none") } else { b };
     let d = put(out, c, b"\n");
     let e = put_standings(out, d, before, after);
-    let f = put_all_moves(out, e, before, after);
-    put_total(out, f, after)
+    let f = put_all_idle(out, e, after, overrides);
+    let g = put_all_moves(out, f, before, after);
+    put_total(out, g, after)
 }
 
 fn put_freed(

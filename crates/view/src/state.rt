@@ -1,5 +1,6 @@
 // `show`: the manager's view of a state that stands, read where it lies.
 ghost use Prim.Native.Nat.{_<_};
+use crate::price::put_price_end;
 use crate::put_form;
 use crate::put_phase;
 use layout::STATE;
@@ -37,12 +38,13 @@ fn put_product(out: &mut [u8; ANSWER], at: usize, s: &[u8; STATE], p: usize) -> 
         before.amount() as u64,
         story::held_of(s, p) as u64,
     ];
-    put_form(
+    let a = put_form(
         out,
         at,
-        b"  product % target # cap # start # price # before # held #\n",
+        b"  product % target # cap # start # price # before # held #",
         &numbers,
-    )
+    );
+    put_price_end(out, a, book::mark(s, p) != 0)
 }
 
 fn put_products(out: &mut [u8; ANSWER], at: usize, s: &[u8; STATE]) -> usize {

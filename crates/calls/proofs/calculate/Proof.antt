@@ -8,6 +8,4 @@ use Rattle.calls.proofs.calculate.Tie as tie
 pub calculate-spec : {M : Type 1} → statement M
 calculate-spec =
     tie.close
-    (tie.spec (λ c κs. search needs) (λ c. search needs) (λ c κs. search needs) (λ c. inl refl) (λ c κs. search needs) (λ c. inl refl)
-    (λ c κs. search needs) (λ c. search needs) (λ c. search needs) (λ c. search needs) (λ c κs. search needs) (λ c. search needs)
-    (λ c. search needs) (λ c. search needs) (λ c κs. search needs) (λ c. search needs) (λ c. search calculated) (λ c. inl refl))
+    (tie.spec (λ c κs. search needs) (λ c. inl refl) (λ c κs. search needs) (λ c. inl refl) (λ c κs. search needs) (λ c. inl refl) (λ c κs. search needs) (λ c. search needs) (λ c. search needs) (λ c. search needs) (λ c κs. search needs) (λ c. search needs) (λ c. search needs) (λ c. search needs) (λ c κs. search needs) (λ c. search calculated))

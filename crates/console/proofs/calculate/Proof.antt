@@ -6,13 +6,13 @@ use Rattle.console.proofs.calculate.Statement.{statement}
 use Rattle.console.proofs.calculate.Tie as tie
 
 returns : tie.Need-returns
-returns c = calculate-refused _ _ _ (c .before .calculate-number .ensures) (omega (arith, c .if1 .taken))
+returns c = calculate-refused _ _ _ _ (c .before .calculate-number .ensures) (omega (arith, c .if1 .taken))
 
 may : (c : tie.Else1) → let a = c .before .before .before .before .before .args in Ready (a .s .now) (a .draw .now)
-may c = ready _ _ _ (c .before .calculate-number .ensures) (record { small = λ i. c .before .before .before .before .slice-known .given i .fits }) (omega (arith, c .if1 .left))
+may c = ready _ _ (c .before .before .before .before .before .args .overrides) _ (c .before .calculate-number .ensures) (record { small = λ i. c .before .before .before .before .slice-known .given i .fits }) (omega (arith, c .if1 .left))
 
 returns-2 : tie.Need-returns-2
-returns-2 c = calculate-done _ _ _ (c .before .before .before .before .before .calculate-number .ensures) (omega (arith, c .before .before .before .before .if1 .left)) _ _ (c .before .before .calculate .ensures)
+returns-2 c = calculate-done _ _ _ _ (c .before .before .before .before .before .calculate-number .ensures) (omega (arith, c .before .before .before .before .if1 .left)) _ _ (c .before .before .calculate .ensures)
 
 pub calculate-spec : {M : Type 1} → statement M
 calculate-spec =

@@ -61,8 +61,8 @@ returns c =
     let a = f .before .before .before in
     p .prices .ensures _ (t .phase .ensures _ (w .reduce .ensures))
     ∙ ap stored (ends (loaded (a .args .s .now)) (a .args .targets) (a .args .caps) _ (q .set-to-caps .ensures) (h .held-all .result) (l .lanes-of .result)
-    (a .pre .stands .limits .bidders) (b .bidders .result) (b .bidders .ensures .0) (h .held-all .ensures) (l .lanes-of .ensures)
-    (x .foresee .ensures) (a .pre .stands .limits .products) (f .freed .result) (f .freed .ensures) (i .if1 .taken))
+    (a .pre .stands .limits .bidders) (b .bidders .result) (b .bidders .ensures .0) (h .held-all .ensures) (l .lanes-of .ensures .0)
+    (x .foresee .ensures) (a .pre .stands .limits .products) (f .freed .result) (f .freed .ensures) (l .lanes-of .ensures .1) (i .if1 .taken))
 
 returns-2 : tie.Need-returns-2
 returns-2 c =
@@ -79,8 +79,8 @@ returns-2 c =
     let a = f .before .before .before in
     p .prices2 .ensures _ (t .phase2 .ensures _ (w .reduce .ensures))
     ∙ ap stored (goes-on (loaded (a .args .s .now)) (a .args .targets) (a .args .caps) _ (q .set-to-caps .ensures) (h .held-all .result) (l .lanes-of .result)
-    (a .pre .stands .limits .bidders) (b .bidders .result) (b .bidders .ensures .0) (h .held-all .ensures) (l .lanes-of .ensures)
-    (x .foresee .ensures) (a .pre .stands .limits .products) (f .freed .result) (f .freed .ensures) (i .if1 .left))
+    (a .pre .stands .limits .bidders) (b .bidders .result) (b .bidders .ensures .0) (h .held-all .ensures) (l .lanes-of .ensures .0)
+    (x .foresee .ensures) (a .pre .stands .limits .products) (f .freed .result) (f .freed .ensures) (l .lanes-of .ensures .1) (i .if1 .left))
 
 pub cut-back-spec : {M : Type 1} → statement M
 cut-back-spec =

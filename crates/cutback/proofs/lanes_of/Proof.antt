@@ -1,3 +1,4 @@
+use mathlib.Core.Path.{refl}
 use Prim.Native.Nat.{_-_}
 use native.Mathlib.Omega.{arith}
 use borrow.Author.Needs.{needs}
@@ -26,7 +27,7 @@ returns : tie.Need-returns Inv-loop μ-loop
 returns c =
     let v = c .before .loop .inv in
     let a = c .before .before .before .before .args in
-    listed (loaded (a .s .now) .terms .unit) _ _ _ (v .0) (v .1) (v .1) (omega arith)
+    (listed (loaded (a .s .now) .terms .unit) _ _ _ (v .0) (v .1) (v .1) (omega arith), refl)
 
 pub lanes-of-spec : {M : Type 1} → statement M
 lanes-of-spec =

@@ -8,25 +8,25 @@ use Rattle.prices.proofs.foresee.Statement.{statement}
 use Rattle.prices.proofs.foresee.Tie as tie
 
 abbrev Inv-loop : tie.InvT-loop
-Inv-loop s held l products price₀ before₀ over₀ bottom₀ p₀ price before over bottom p =
-    Seen (loaded s .decrements) held l products p price before over bottom
+Inv-loop s held l products price₀ before₀ mark₀ over₀ bottom₀ p₀ price before mark over bottom p =
+    Seen (loaded s .decrements) held l products p price before mark over bottom
 
 abbrev μ-loop : tie.MeasureT-loop
-μ-loop s held l products price₀ before₀ over₀ bottom₀ p₀ price before over bottom p = 8 - p
+μ-loop s held l products price₀ before₀ mark₀ over₀ bottom₀ p₀ price before mark over bottom p = 8 - p
 
 loop-holds : tie.Need-loop-holds Inv-loop μ-loop
-loop-holds c = none-seen _ _ _ _ (search needs) (search needs)
+loop-holds c = none-seen _ _ _ _ (search needs) (search needs) (search needs)
 
 work-out-requires : tie.Need-work-out-requires Inv-loop μ-loop
 work-out-requires c κs =
-    let v = c .before .before .before .before .before in
+    let v = c .before .before .before .before .before .before in
     let a = v .before .before .before .before in
     (search needs, omega (arith, a .pre .1 (v .loop .p) (omega arith)))
 
 loop-again : tie.Need-loop-again Inv-loop μ-loop
 loop-again c =
-    let w = c .before in
-    let l = w .before .before .before .before .before in
+    let w = c .before .before .before in
+    let l = w .before .before .before .before .before .before in
     let v = l .before in
     let m = v .before .before in
     let a = m .before .before .args in
@@ -44,7 +44,8 @@ returns c =
 pub foresee-spec : {M : Type 1} → statement M
 foresee-spec =
     tie.close
-    (tie.spec Inv-loop μ-loop (λ c κs. search needs) (λ c κs. search needs) loop-holds (λ c. search needs) (λ c. search needs) (λ c. search needs) (λ c. search needs)
-    (λ c. search needs) (λ c. search needs) (λ c. search needs) (λ c. search needs) work-out-requires (λ c. search needs)
+    (tie.spec Inv-loop μ-loop (λ c κs. search needs) (λ c κs. search needs) loop-holds (λ c. search needs) (λ c. search needs)
+    (λ c. search needs) (λ c. search needs) (λ c. search needs) (λ c. search needs) (λ c. search needs) (λ c. search needs)
+    (λ c. search needs) (λ c. search needs) work-out-requires (λ c. search needs) (λ c. search needs) (λ c. search needs)
     (λ c. search needs) (λ c. search needs) (λ c. search needs) (λ c. search needs) (λ c. search needs) (λ c κs. search needs)
     (λ c. search needs) (λ c. search needs) loop-again (λ c κs. search needs) returns)

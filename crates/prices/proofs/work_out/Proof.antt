@@ -1,58 +1,26 @@
-use mathlib.Core.Path.{_≡_, _∙_, ap}
-use mathlib.Core.Logic.{⊎-elim}
-use Prim.Native.Nat.{_≤_, _*_, _-_}
-use native.Mathlib.Nat.{le-antisymm}
-use native.Mathlib.Omega.{arith}
 use borrow.Author.Needs.{needs}
-use Rattle.rules.specs.Price.{decrementUpTo}
-use Rattle.rules.specs.Layout.{loaded}
 use Rattle.held.proofs.Signed.{surplus-is}
-use Rattle.prices.proofs.Laws.{row-taken, row-left, no-target, stays, falls}
+use Rattle.prices.proofs.Laws.{before-stays, before-moves}
 use Rattle.prices.proofs.work_out.Statement.{statement}
 use Rattle.prices.proofs.work_out.Tie as tie
 
-abbrev Inv-loop : tie.InvT-loop
-Inv-loop s held target going over percent n decrement₀ i₀ decrement i =
-    (i ≤ n) × (decrement .0 ≡ decrementUpTo (loaded s .decrements) percent i)
-
-abbrev μ-loop : tie.MeasureT-loop
-μ-loop s held target going over percent n decrement₀ i₀ decrement i = n - i
-
-returns : tie.Need-returns Inv-loop μ-loop
+returns : tie.Need-returns
 returns c =
-    let z = c .before in
+    let g = c .before in
+    let z = g .before in
     let o = z .before in
     let a = o .before .before .args in
-    stays (loaded (a .s .now) .decrements) (a .held) (a .target) (a .going) (a .last)
-    (surplus-is (o .standing-of .result) (o .standing-of .ok) (z .above-zero .ensures) (o .standing-of .ensures)) (c .if1 .taken)
+    let v = surplus-is (o .standing-of .result) (o .standing-of .ok) (z .above-zero .ensures) (o .standing-of .ensures) in
+    before-stays _ (a .given) (a .held) (a .target) (a .going) v (a .last) (g .next-price .ensures (a .held) v) (c .if1 .taken)
 
-loop-again : tie.Need-loop-again Inv-loop μ-loop
-loop-again c =
-    let r = c .before .before .row .ensures in
-    let v = c .before .before .before .before .loop in
-    let w = c .before .before .before .before .before .before in
-    let d = loaded (w .before .before .before .before .before .args .s .now) .decrements in (
-      omega arith,
-      ⊎-elim (λ t. ap (λ x. x .0) (t .2) ∙ row-taken d (w .if2 .percent) (v .i) (r .0) (r .1) (v .inv .1) (t .0 .taken))
-          (λ t. ap (λ x. x .0) (t .1) ∙ row-left d (w .if2 .percent) (v .i) (r .0) (r .1) (v .inv .1) (t .0 .left)) (c .if3 .came),
-    )
-
-returns-2 : tie.Need-returns-2 Inv-loop μ-loop
+returns-2 : tie.Need-returns-2
 returns-2 c =
-    let v = c .before .before .loop in
-    let n = c .before .before .before in
-    let w = n .before in
-    let z = w .before .before in
+    let g = c .before in
+    let z = g .before in
     let o = z .before in
     let a = o .before .before .args in
-    falls (loaded (a .s .now) .decrements) (a .held) (a .target) (a .going) (a .last)
-    (surplus-is (o .standing-of .result) (o .standing-of .ok) (z .above-zero .ensures) (o .standing-of .ensures)) (w .before .if1 .left) (w .if2 .percent) (v .decrement .0)
-    (⊎-elim (λ t. t .1) (λ t. t .1 ∙ no-target (100 * z .above-zero .result) (a .target) (t .0 .left)) (w .if2 .came))
-    (v .inv .1 ∙ ap (decrementUpTo _ _) (le-antisymm (v .inv .0) (c .before .loop-test .left) ∙ n .rows .ensures .0)) (c .fall .ensures)
+    let v = surplus-is (o .standing-of .result) (o .standing-of .ok) (z .above-zero .ensures) (o .standing-of .ensures) in
+    before-moves _ (a .given) (a .held) (a .target) (a .going) v (a .last) (g .next-price .ensures (a .held) v) (c .if1 .left)
 
 pub work-out-spec : {M : Type 1} → statement M
-work-out-spec =
-    tie.close
-    (tie.spec Inv-loop μ-loop (λ c κs. search needs) (λ c κs. search needs) returns (λ c. search needs) (λ c. search needs) (λ c. search needs) (λ c κs. search needs)
-    (λ c. search needs) (λ c κs. search needs) (λ c. search needs) (λ c. search needs) (λ c. search needs) loop-again
-    (λ c κs. search needs) returns-2)
+work-out-spec = tie.close (tie.spec (λ c κs. search needs) (λ c κs. search needs) (λ c κs. search needs) returns returns-2)

@@ -55,7 +55,7 @@ settle-requires c κs =
     record {
       lent = record { long = a .pre .long; counts = counts _ _ (a .pre) };
       round = a .pre .stands .round;
-      lanes = l .lanes-of .ensures;
+      lanes = l .lanes-of .ensures .0;
     }
 
 returns : tie.Need-returns
@@ -71,7 +71,7 @@ returns c =
     let m = n .before .before in
     let a = m .before .before .before .before in
     calculates _ _ (a .pre) (m .products .ensures .0) (n .bidders .ensures .0) (t .ticks .result) (l .lanes-of .result) (t .ticks .ensures .1)
-    (l .lanes-of .ensures) _ _ _ _ (k .keep-all .result) (o .outbid-all .result .count) (o .outbid-all .result .free) (p .accept-all .ensures)
+    (l .lanes-of .ensures .0) (l .lanes-of .ensures .1) _ _ _ _ (k .keep-all .result) (o .outbid-all .result .count) (o .outbid-all .result .free) (p .accept-all .ensures)
     (k .keep-all .ensures .0) (d .deem-all .ensures .0) (o .outbid-all .ensures) (z .settle .ensures)
 
 pub calculate-spec : {M : Type 1} → statement M

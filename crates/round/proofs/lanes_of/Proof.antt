@@ -1,3 +1,4 @@
+use mathlib.Core.Path.{refl}
 use Prim.Native.Nat.{_-_}
 use native.Mathlib.Omega.{arith}
 use borrow.Author.Needs.{needs}
@@ -11,13 +12,13 @@ use Rattle.round.proofs.lanes_of.Statement.{statement}
 use Rattle.round.proofs.lanes_of.Tie as tie
 
 abbrev Inv-loop : tie.InvT-loop
-Inv-loop s target₀ price₀ before₀ p₀ target price before p =
+Inv-loop s overrides target₀ price₀ before₀ p₀ target price before p =
     Filled (targetOf (setup (loaded s))) 8 p target
     × (Filled (λ p. quote (loaded s .terms .unit) (priceAt (loaded s) p)) 8 p price
     × Filled (λ p. quote (loaded s .terms .unit) (beforeAt (loaded s) p)) 8 p before)
 
 abbrev μ-loop : tie.MeasureT-loop
-μ-loop s target₀ price₀ before₀ p₀ target price before p = 8 - p
+μ-loop s overrides target₀ price₀ before₀ p₀ target price before p = 8 - p
 
 loop-again : tie.Need-loop-again Inv-loop μ-loop
 loop-again c =
@@ -35,7 +36,7 @@ returns : tie.Need-returns Inv-loop μ-loop
 returns c =
     let v = c .before .loop .inv in
     let a = loaded (c .before .before .before .before .args .s .now) in
-    listed (a .terms .unit) _ _ _ (v .0) (v .1 .0) (v .1 .1) (omega arith)
+    (listed (a .terms .unit) _ _ _ (v .0) (v .1 .0) (v .1 .1) (omega arith), refl)
 
 pub lanes-of-spec : {M : Type 1} → statement M
 lanes-of-spec =

@@ -9,7 +9,7 @@ returns c =
     let first = c .before .before .before .before .before .before in
     let start = first .before .before .before .before .before in
     let a = start .args in
-    twice (λ s. calculateCall s (a .draw .now)) _ _ _ _ _ _ (start .pre) (first .calculate .ensures) (c .before .before .calculate2 .ensures)
+    twice (λ s. calculateCall s (a .draw .now) (a .overrides)) _ _ _ _ _ _ (start .pre) (first .calculate .ensures) (c .before .before .calculate2 .ensures)
 
 pub calculate-spec : {M : Type 1} → statement M
 calculate-spec = tie.close (tie.spec (λ c κs. search needs) (λ c κs. search needs) (λ c. search needs) (λ c. search needs) returns)

@@ -25,7 +25,7 @@ loop-again c =
     let d = c .before .before in
     let b = d .before .before .before .before in
     let l = b .before .before .before .before .before .loop in
-    let e : l .p * 11 + 14 ≡ suc (l .p * 11 + 13) = omega arith in
+    let e : l .p * productWidth + (productsFrom + 1) ≡ suc (l .p * productWidth + productsFrom) = omega arith in
     next-passed (l .inv) (omega arith) (d .one2 .ensures ∙ rw (b .one .ensures, e))
 
 returns : tie.Need-returns Inv-loop μ-loop

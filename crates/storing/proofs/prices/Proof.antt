@@ -25,7 +25,7 @@ loop-again c =
     let d = c .before .before in
     let b = d .before .before .before .before .before in
     let l = b .before .before .before .before .before .before .loop in
-    let e : l .p * 11 + 21 ≡ suc (suc (suc (l .p * 11 + 18))) = omega arith in
+    let e : l .p * productWidth + (productsFrom + 8) ≡ suc (suc (suc (l .p * productWidth + (productsFrom + 5)))) = omega arith in
     next-passed (l .inv) (omega arith)
     (d .three2 .ensures ∙ rw (d .before .amount2 .ensures, b .three .ensures, b .before .amount .ensures, e))
 

@@ -1,6 +1,6 @@
 -- `storing::products` meets its contract. The parts passed are written. Assumes nothing.
-use mathlib.Core.Path.{_∙_}
-use Prim.Native.Nat.{_-_}
+use mathlib.Core.Path.{_≡_, _∙_}
+use Prim.Native.Nat.{suc, _+_, _*_, _-_}
 use native.Mathlib.Numerals.{towards-suc}
 use native.Mathlib.Omega.{arith}
 use Rattle.rules.specs.Parts.{lane, noLane, laneAt}
@@ -30,11 +30,14 @@ loop-again c =
     let c₃ = c₂ .before .before .before .before in
     let c₄ = c₃ .before .before .before .before in
     let c₅ = c₄ .before .before .before .before in
-    let l = c₅ .before .before .before .before in
+    let c₆ = c₅ .before .before .before .before in
+    let l = c₆ .before .before .before .before in
     let t = l .before .before .args .t2 in
+    let k = l .loop .p * productWidth + productsFrom in
+    let e : k + 11 ≡ suc (suc (suc (k + 8))) = omega arith in
     next-passed (l .loop .inv) (omega arith)
-    (rw (list-at (λ p. lane (targetOf t p) (capOf t p) (startOf t p) (startOf t p) (startOf t p)) noLane 8 (l .loop .p) (omega arith))
-    (d .three3 .ensures ∙ rw (c₂ .three2 .ensures, c₃ .three .ensures, c₄ .one2 .ensures, c₅ .one .ensures) (simp towards-suc)))
+    (rw (list-at (λ p. lane (targetOf t p) (capOf t p) (startOf t p) (startOf t p) (startOf t p) 0) noLane 8 (l .loop .p) (omega arith))
+    (d .byte .ensures ∙ rw (c₂ .three3 .ensures, c₃ .three2 .ensures, c₄ .three .ensures, c₅ .one2 .ensures, c₆ .one .ensures, e) (simp towards-suc)))
 
 returns : tie.Need-returns Inv-loop μ-loop
 returns c = all-passed (c .before .loop .inv) (omega arith)
@@ -44,5 +47,5 @@ products-spec =
     tie.close
     (tie.spec Inv-loop μ-loop loop-holds (λ c. search needs) (λ c. search needs) (λ c. search needs) (λ c. search needs)
     (λ c κs. search needs) (λ c. search needs) (λ c κs. search needs) (λ c. search needs) (λ c κs. search needs) (λ c. search needs)
-    (λ c κs. search needs) (λ c. search needs) (λ c κs. search needs) (λ c. search needs) (λ c. search needs) loop-again
-    (λ c. search needs) returns)
+    (λ c κs. search needs) (λ c. search needs) (λ c κs. search needs) (λ c. search needs) (λ c κs. search needs) (λ c. search needs)
+    (λ c. search needs) loop-again (λ c. search needs) returns)
