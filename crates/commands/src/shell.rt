@@ -27,6 +27,7 @@ use text::put;
 use text::put_named;
 use text::read_again;
 use text::send;
+use text::skip_on;
 use text::word;
 
 // Room for a line of 2,048 bytes and its end.
@@ -506,7 +507,8 @@ fn too_long(
     take_in(course, told, 0, names, out)
 }
 
-// What is left in a full buffer without a line end: of a remark its mark, so that its rest is a remark too; of any other line nothing.
+// What is left in a full buffer without a line end: of a remark its mark, so that its rest is a remark too; of any other line what tells
+// where it ends.
 fn after_full(buf: &mut [u8], ended: bool) -> Input {
     if ended {
         return Input::ended();
@@ -521,7 +523,8 @@ fn after_full(buf: &mut [u8], ended: bool) -> Input {
             };
         }
     }
-    Input::skipped()
+    let n = buf.len();
+    skip_on(buf, n)
 }
 
 // What is read of the next line, and how it has gone.

@@ -3,7 +3,7 @@ use Prim.Native.Nat.{ℕ, suc, _-_}
 use mathlib.Core.Bool.{Bool, _&&_, _||_, not}
 use mathlib.Core.List.{List, [], _∷_, _++_}
 use lib.ListN.{length, getD, take, drop}
-use lib.Dec.{ltb, eqb}
+use lib.Dec.{leb, ltb, eqb}
 use Rattle.text.specs.Nibble.{pick}
 use Rattle.text.specs.Words.{runEnd}
 use Rattle.text.specs.declared.Run.the-variants.{Spaces}
@@ -39,6 +39,18 @@ joinFrom second first (b ∷ w) = joinedByte second first b (getD w 0 0) ∷ joi
 
 abbrev pub joined : List ℕ → List ℕ
 joined w = joinFrom 0 0 w
+
+-- the byte i before the place n, and 0 where there is none
+abbrev pub back : List ℕ → ℕ → ℕ → ℕ
+back s n i = pick (leb i n) (getD s (n - i) 0) 0
+
+-- what is kept of a line that is too long, by its last two bytes: `x`, and after it a backslash or a backslash and `\r`, so that what comes
+-- next ends the line where it would have ended it, and makes no remark of it
+abbrev pub keptOf : ℕ → ℕ → List ℕ
+keptOf second first = pick (eqb first 92) (120 ∷ 92 ∷ []) (pick (eqb second 92 && eqb first 13) (120 ∷ 92 ∷ 13 ∷ []) (120 ∷ []))
+
+abbrev pub keptAt : List ℕ → ℕ → List ℕ
+keptAt s n = keptOf (back s n 2) (back s n 1)
 
 -- the bytes from one place to another
 abbrev pub between : List ℕ → ℕ → ℕ → List ℕ

@@ -20,6 +20,7 @@ pub use input::Input;
 pub use input::join_lines;
 pub use input::keep_rest;
 pub use input::next_end;
+pub use input::skip_on;
 pub use lines::control_at;
 pub use moved::read_again;
 pub use moved::write_whole;
