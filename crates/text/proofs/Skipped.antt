@@ -1,6 +1,6 @@
 -- A line that is too long ends where it would have ended had it been kept whole. Assumes nothing.
 use Prim.Native.Nat.{ℕ, zero, suc, _+_, _-_, _≤_, _<_}
-use mathlib.Core.Path.{_≡_, refl, sym, _∙_, ap, ap₂, subst}
+use mathlib.Core.Path.{_≡_, refl, sym, _∙_, ap₂, subst}
 use mathlib.Core.Bool.{Bool, true, false, _&&_}
 use mathlib.Core.List.{List, [], _∷_, _++_}
 use native.Mathlib.Omega.{arith}
@@ -8,9 +8,8 @@ use native.Mathlib.Numerals.{add-one}
 use borrow.Author.Tests.{eqb-true, le-leb}
 use lib.ListN.{length, getD, take, drop, set}
 use lib.Dec.{eqb}
-use Rattle.text.specs.Nibble.{pick}
 use Rattle.text.specs.Words.{runEnd}
-use Rattle.text.specs.Lines.{endsLine, endFrom, remark, lineEnd, back, keptOf, keptAt}
+use Rattle.text.specs.Lines.{endsLine, endFrom, remark, lineEnd, back, keptIf, keptOf, keptAt}
 use Rattle.text.proofs.Lined.{end-more, end-stop}
 
 -- ---- the end of a line, looked for from a place on before which it is not
@@ -84,10 +83,7 @@ kept-stands (a ∷ []) s f h = absurd (let z : ⊥ = omega arith in z)
 kept-stands (a ∷ (b ∷ [])) s f h = absurd (let z : ⊥ = omega arith in z)
 kept-stands (a ∷ (b ∷ (c ∷ w))) s f h = by (eqb f 92) (eqb s 92 && eqb f 13)
   where
-    kept : Bool → Bool → List ℕ
-    kept t u = pick t (120 ∷ 92 ∷ []) (pick u (120 ∷ 92 ∷ 13 ∷ []) (120 ∷ []))
-
-    by : (t u : Bool) → take (length (kept t u)) (120 ∷ 92 ∷ 13 ∷ w) ≡ kept t u
+    by : (t u : Bool) → take (length (keptIf t u)) (120 ∷ 92 ∷ 13 ∷ w) ≡ keptIf t u
     by true u = refl
     by false true = refl
     by false false = refl
@@ -100,7 +96,7 @@ kept-remark s f v = by (eqb f 92) (eqb s 92 && eqb f 13)
     begins : (w : List ℕ) → remark (120 ∷ w) ≡ false
     begins w = let e : suc (length w) - 0 ≡ suc (length w) = omega arith in rw e refl
 
-    by : (t u : Bool) → remark (pick t (120 ∷ 92 ∷ []) (pick u (120 ∷ 92 ∷ 13 ∷ []) (120 ∷ [])) ++ v) ≡ false
+    by : (t u : Bool) → remark (keptIf t u ++ v) ≡ false
     by true u = begins (92 ∷ v)
     by false true = begins (92 ∷ 13 ∷ v)
     by false false = begins v

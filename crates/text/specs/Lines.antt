@@ -1,6 +1,6 @@
 -- Where a line ends, and lines that are joined. Assumes nothing.
 use Prim.Native.Nat.{ℕ, suc, _-_}
-use mathlib.Core.Bool.{Bool, _&&_, _||_, not}
+use mathlib.Core.Bool.{Bool, true, false, _&&_, _||_, not}
 use mathlib.Core.List.{List, [], _∷_, _++_}
 use lib.ListN.{length, getD, take, drop}
 use lib.Dec.{leb, ltb, eqb}
@@ -44,10 +44,15 @@ joined w = joinFrom 0 0 w
 abbrev pub back : List ℕ → ℕ → ℕ → ℕ
 back s n i = pick (leb i n) (getD s (n - i) 0) 0
 
--- what is kept of a line that is too long, by its last two bytes: `x`, and after it a backslash or a backslash and `\r`, so that what comes
--- next ends the line where it would have ended it, and makes no remark of it
+-- what is kept of a line that is too long: `x`, and after it the backslash, or the backslash and `\r`, that its last bytes are, so that what
+-- comes next ends the line where it would have ended it, and makes no remark of it
+abbrev pub keptIf : Bool → Bool → List ℕ
+keptIf true u = 120 ∷ 92 ∷ []
+keptIf false true = 120 ∷ 92 ∷ 13 ∷ []
+keptIf false false = 120 ∷ []
+
 abbrev pub keptOf : ℕ → ℕ → List ℕ
-keptOf second first = pick (eqb first 92) (120 ∷ 92 ∷ []) (pick (eqb second 92 && eqb first 13) (120 ∷ 92 ∷ 13 ∷ []) (120 ∷ []))
+keptOf second first = keptIf (eqb first 92) (eqb second 92 && eqb first 13)
 
 abbrev pub keptAt : List ℕ → ℕ → List ℕ
 keptAt s n = keptOf (back s n 2) (back s n 1)

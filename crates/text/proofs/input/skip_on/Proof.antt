@@ -1,5 +1,4 @@
-use mathlib.Core.Path.{_∙_, ap}
-use lib.ListN.{take, set, length-set}
+use lib.ListN.{length-set}
 use native.Mathlib.Omega.{arith}
 use borrow.Author.Needs.{needs}
 use Rattle.text.specs.Lines.{back}
