@@ -7,14 +7,15 @@
 #include <string.h>
 
 /* STATE, the state's length, is given by bench/count from crates/layout. */
-enum { PRODUCTS = 8, BIDDERS = 32, ROWS = 8, PLACES = 256, LAST = 4095 };
+enum { PRODUCTS = 8, BIDDERS = 32, ROWS = 8, LOTS = 4, PLACES = 256, LAST = 4095 };
 enum { OPEN = 1, CLOSED = 2, STOPPED = 3 };
 
 struct product { uint8_t target, cap, mark; uint32_t start, price, before; };
 struct seat { uint16_t initial, free; };
 struct row { uint16_t percent, decrement; };
-struct record { uint8_t going, denied, retained; uint32_t exit; };
-struct line { uint8_t tranches, withdrawn, priority; uint32_t exit; };
+struct lot { uint8_t count; uint32_t exit; };
+struct record { uint8_t going, denied; struct lot retained[LOTS]; };
+struct line { uint8_t tranches, priority; struct lot withdrawn[LOTS]; };
 
 struct auction {
     uint8_t phase, unit, products, bidders, rows;
@@ -36,6 +37,14 @@ static void put2(uint8_t *s, uint32_t x) { s[0] = (uint8_t)(x >> 8), s[1] = (uin
 static void put3(uint8_t *s, uint32_t x) { s[0] = (uint8_t)(x >> 16), put2(s + 1, x); }
 static void put4(uint8_t *s, uint32_t x) { put2(s, x >> 16), put2(s + 2, x); }
 
+static void load_lots(struct lot *l, const uint8_t *s) {
+    for (int i = 0; i < LOTS; i++, s += 4) l[i] = (struct lot){s[0], get3(s + 1)};
+}
+
+static void store_lots(const struct lot *l, uint8_t *s) {
+    for (int i = 0; i < LOTS; i++, s += 4) s[0] = l[i].count, put3(s + 1, l[i].exit);
+}
+
 static void load(struct auction *a, const uint8_t *s) {
     a->phase = s[0], a->unit = s[1], a->products = s[2], a->bidders = s[3], a->rows = s[4];
     a->round = get2(s + 5), a->statewide = get2(s + 7), a->filed = get4(s + 9);
@@ -44,8 +53,10 @@ static void load(struct auction *a, const uint8_t *s) {
         a->product[p] = (struct product){s[0], s[1], s[11], get3(s + 2), get3(s + 5), get3(s + 8)};
     for (int b = 0; b < BIDDERS; b++, s += 4) a->seat[b] = (struct seat){get2(s), get2(s + 2)};
     for (int i = 0; i < ROWS; i++, s += 4) a->row[i] = (struct row){get2(s), get2(s + 2)};
-    for (int k = 0; k < PLACES; k++, s += 6) a->record[k] = (struct record){s[0], s[1], s[2], get3(s + 3)};
-    for (int k = 0; k < PLACES; k++, s += 6) a->line[k] = (struct line){s[0], s[1], s[5], get3(s + 2)};
+    for (struct record *r = a->record; r < a->record + PLACES; r++, s += 18)
+        r->going = s[0], r->denied = s[1], load_lots(r->retained, s + 2);
+    for (struct line *l = a->line; l < a->line + PLACES; l++, s += 18)
+        l->tranches = s[0], load_lots(l->withdrawn, s + 1), l->priority = s[17];
 }
 
 static void store(const struct auction *a, uint8_t *s) {
@@ -56,10 +67,32 @@ static void store(const struct auction *a, uint8_t *s) {
         s[0] = t->target, s[1] = t->cap, put3(s + 2, t->start), put3(s + 5, t->price), put3(s + 8, t->before), s[11] = t->mark;
     for (const struct seat *t = a->seat; t < a->seat + BIDDERS; t++, s += 4) put2(s, t->initial), put2(s + 2, t->free);
     for (const struct row *t = a->row; t < a->row + ROWS; t++, s += 4) put2(s, t->percent), put2(s + 2, t->decrement);
-    for (const struct record *r = a->record; r < a->record + PLACES; r++, s += 6)
-        s[0] = r->going, s[1] = r->denied, s[2] = r->retained, put3(s + 3, r->exit);
-    for (const struct line *l = a->line; l < a->line + PLACES; l++, s += 6)
-        s[0] = l->tranches, s[1] = l->withdrawn, put3(s + 2, l->exit), s[5] = l->priority;
+    for (const struct record *r = a->record; r < a->record + PLACES; r++, s += 18)
+        s[0] = r->going, s[1] = r->denied, store_lots(r->retained, s + 2);
+    for (const struct line *l = a->line; l < a->line + PLACES; l++, s += 18)
+        s[0] = l->tranches, store_lots(l->withdrawn, s + 1), s[17] = l->priority;
+}
+
+/* ---- Lots */
+
+static int total(const struct lot *l) { return l[0].count + l[1].count + l[2].count + l[3].count; }
+
+static int lots_are_zero(const struct lot *l) {
+    for (int i = 0; i < LOTS; i++) if (l[i].count || l[i].exit) return 0;
+    return 1;
+}
+
+/* The first used lot has the lowest price, the last the highest. */
+static int first_used(const struct lot *l) {
+    int i = 0;
+    while (i < LOTS - 1 && !l[i].count) i++;
+    return i;
+}
+
+static int last_used(const struct lot *l) {
+    int i = LOTS - 1;
+    while (i > 0 && !l[i].count) i--;
+    return i;
 }
 
 /* ---- "Standing means" */
@@ -102,9 +135,19 @@ static int limits(const struct auction *a) {
     return a->bidders == BIDDERS || a->filed >> a->bidders == 0;
 }
 
-/* "retained exits above p, at most q, and 0 where r is 0"; 12 of a card asks the same of its exits. */
-static int exit_fits(int count, uint32_t exit, const struct product *t) {
-    return count ? t->price < exit && exit <= t->before : exit == 0;
+/* "Prices strictly rise, used lots come first, unused ones are zero", each price above p, at most q; 12 of a card asks the same. */
+static int exits_fit(const struct lot *l, const struct product *t) {
+    uint32_t low = t->price;
+    for (int i = 0; i < LOTS; i++) {
+        if (!l[i].count) {
+            if (l[i].exit) return 0;
+            low = t->before; /* none is used after it */
+            continue;
+        }
+        if (l[i].exit <= low || l[i].exit > t->before) return 0;
+        low = l[i].exit;
+    }
+    return 1;
 }
 
 /* The records, one by one; what is held and kept is summed on the way. */
@@ -115,11 +158,11 @@ static int records_stand(const struct auction *a, struct sums *s) {
         for (int p = 0; p < PRODUCTS; p++) {
             const struct record *r = &a->record[b * PRODUCTS + p];
             if (b >= a->bidders || p >= a->products) {
-                if (r->going || r->denied || r->retained || r->exit) return 0;
+                if (r->going || r->denied || !lots_are_zero(r->retained)) return 0;
                 continue;
             }
-            int kept = r->denied + r->retained, held = r->going + kept;
-            if (held > a->product[p].cap || !exit_fits(r->retained, r->exit, &a->product[p])) return 0;
+            int kept = r->denied + total(r->retained), held = r->going + kept;
+            if (held > a->product[p].cap || !exits_fit(r->retained, &a->product[p])) return 0;
             s->held[p] += held;
             s->kept[p] += kept;
             mine += held;
@@ -141,16 +184,16 @@ static int card_stands(const struct auction *a, const struct sums *s, int b) {
         const struct record *r = &a->record[b * PRODUCTS + p];
         const struct line *l = &a->line[b * PRODUCTS + p];
         int fall = r->going > l->tranches ? r->going - l->tranches : 0;
-        int rise = l->tranches > r->going ? l->tranches - r->going : 0;
-        if (l->tranches + r->denied + r->retained > a->product[p].cap) return 0; /* 8 */
+        int rise = l->tranches > r->going ? l->tranches - r->going : 0, leaves = total(l->withdrawn);
+        if (l->tranches + r->denied + total(r->retained) > a->product[p].cap) return 0; /* 8 */
         if (fall && !is_above(a, s, p)) return 0; /* 9 */
-        if (l->withdrawn > fall) return 0; /* 11 */
-        if (!exit_fits(l->withdrawn, l->exit, &a->product[p])) return 0; /* 12 */
+        if (leaves > fall) return 0; /* 11 */
+        if (!exits_fit(l->withdrawn, &a->product[p])) return 0; /* 12 */
         if (l->priority) { /* 13 */
             if (!rise || l->priority > 7 || numbers >> l->priority & 1) return 0;
             numbers |= 1 << l->priority;
         }
-        going += r->going, bid += l->tranches, down += fall, up += rise, withdrawn += l->withdrawn, raised += rise > 0;
+        going += r->going, bid += l->tranches, down += fall, up += rise, withdrawn += leaves, raised += rise > 0;
     }
     int free = a->seat[b].free, switched = up > free ? up - free : 0;
     if (bid > going + free) return 0; /* 10 */
@@ -161,7 +204,7 @@ static int card_stands(const struct auction *a, const struct sums *s, int b) {
 static int lines_are_zero(const struct auction *a, int b, int from) {
     for (int p = from; p < PRODUCTS; p++) {
         const struct line *l = &a->line[b * PRODUCTS + p];
-        if (l->tranches || l->withdrawn || l->exit || l->priority) return 0;
+        if (l->tranches || !lots_are_zero(l->withdrawn) || l->priority) return 0;
     }
     return 1;
 }
@@ -230,12 +273,15 @@ static int state_number(struct auction *a, struct sums *s, const uint8_t *state,
 /* ---- Calculating */
 
 /* A record as it becomes, and what of its bid can still be kept or cancelled. */
-struct place { struct record holds; uint32_t exit; uint8_t leaving, moving, rise, priority; };
+struct place { struct record holds; struct lot leaving[LOTS]; uint8_t moving, rise, priority; };
 
+/* "The default bid is one lot at q." */
 static struct line default_line(const struct auction *a, int k, int ticked) {
-    int going = a->record[k].going;
-    if (!ticked) return (struct line){(uint8_t)going, 0, 0, 0};
-    return (struct line){0, (uint8_t)going, 0, going ? a->product[k % PRODUCTS].before : 0};
+    uint8_t going = a->record[k].going;
+    struct line l = {0};
+    if (!ticked) l.tranches = going;
+    else if (going) l.withdrawn[0] = (struct lot){going, a->product[k % PRODUCTS].before};
+    return l;
 }
 
 /* Step 1. The sums become those of the accepted bids. */
@@ -248,9 +294,8 @@ static void accept(const struct auction *a, const uint8_t *ticks, struct place *
         int up = l.tranches - r->going;
         q->holds = *r;
         q->holds.going = l.tranches;
-        q->exit = l.exit;
-        q->leaving = l.withdrawn;
-        q->moving = (uint8_t)(up < 0 ? -up - l.withdrawn : 0);
+        memcpy(q->leaving, l.withdrawn, sizeof q->leaving);
+        q->moving = (uint8_t)(up < 0 ? -up - total(l.withdrawn) : 0);
         q->rise = (uint8_t)(up > 0 ? up : 0);
         q->priority = l.priority;
         s->held[p] += up;
@@ -264,14 +309,17 @@ static int keep(const struct auction *a, const uint8_t *ticks, const uint8_t *dr
         while (p < a->products && !(ticks[p] && s->held[p] < a->product[p].target)) p++;
         if (p == a->products) return kept;
         struct place *best = NULL;
+        uint32_t lowest = 0;
         for (int i = 0; i < a->bidders; i++) {
             struct place *q = &places[draw[i] * PRODUCTS + p];
-            if (q->leaving && (!best || q->exit < best->exit)) best = q;
+            const struct lot *l = &q->leaving[first_used(q->leaving)];
+            if (l->count && (!best || l->exit < lowest)) best = q, lowest = l->exit;
         }
-        if (best) {
-            best->leaving--;
-            best->holds.retained++;
-            best->holds.exit = best->exit;
+        if (best) { /* into the same lot of the record */
+            int i = first_used(best->leaving);
+            best->leaving[i].count--;
+            best->holds.retained[i].count++;
+            best->holds.retained[i].exit = lowest;
         } else {
             int i = 0;
             while (i < a->bidders && !places[draw[i] * PRODUCTS + p].moving) i++;
@@ -309,7 +357,7 @@ static int outbid(struct auction *a, const uint8_t *ticks, const uint8_t *draw, 
         int kept = 0;
         for (int b = 0; b < a->bidders; b++) {
             const struct record *r = &places[b * PRODUCTS + p].holds;
-            kept += r->denied + r->retained;
+            kept += r->denied + total(r->retained);
         }
         for (; is_above(a, s, p) && kept; kept--, s->held[p]--, count++) {
             int i = 0;
@@ -319,12 +367,13 @@ static int outbid(struct auction *a, const uint8_t *ticks, const uint8_t *draw, 
                 a->seat[draw[i]].free++;
                 continue;
             }
-            struct record *best = NULL;
+            struct lot *best = NULL;
             for (i = 0; i < a->bidders; i++) {
-                struct record *r = &places[draw[i] * PRODUCTS + p].holds;
-                if (r->retained && (!best || r->exit > best->exit)) best = r;
+                struct lot *l = places[draw[i] * PRODUCTS + p].holds.retained;
+                l += last_used(l);
+                if (l->count && (!best || l->exit > best->exit)) best = l;
             }
-            if (--best->retained == 0) best->exit = 0;
+            if (--best->count == 0) best->exit = 0;
         }
     }
     return count;

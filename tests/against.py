@@ -3,9 +3,10 @@
 was answered how, which remarks were met how often, and which never. Of help the first line is compared.
 
     tests/against.py [SESSIONS [BOXES [SEED]]]
+    tests/against.py alone [SESSIONS [SEED]]      the model by itself, without a desk
 
-Ten sessions, or ten boxes, are a test; the last line is `N passed, M failed`. The desk is ./desk, or the program that DESK names. The gate
-runs it by tests/second.
+Ten sessions, or ten boxes, are a test; the last line is `N passed, M failed`. Every state that the model comes to has to pass its own test
+of standing. The desk is ./desk, or the program that DESK names. The gate runs it by tests/second.
 """
 import collections
 import glob
@@ -36,25 +37,34 @@ class Settings:
         volume = sum(self.targets)
         self.statewide = volume if rnd.random() < .3 else rnd.randint(1, volume)
         self.eligible = [self.statewide if rnd.random() < .4 else rnd.randint(1, self.statewide) for _ in range(m)]
-        if rnd.random() < .3:  # a thin first round, with room for a cutback; one that makes a product at price 1 too much stops
-            n = rnd.randint(2, 4)
-            self.targets = sorted((rnd.randint(2, 9) for _ in range(n)), reverse=True)
-            self.caps = [rnd.randint(t // 2 + 1, t) for t in self.targets]
-            self.prices = [1 if rnd.random() < .3 else rnd.choice([2, 1000, 14500]) for _ in range(n)]
-            self.statewide = sum(self.targets) * rnd.randint(40, 70) // 100
-            self.eligible = [self.statewide] * rnd.choice([2, 2, 3])
-        elif rnd.random() < .35:  # few bidders for small products, much like setting T: switches are denied, outbid and deemed bid
-            n = rnd.choice([2, 2, 3])
-            self.targets = self.caps = [2] * n
-            self.prices = [1000] * n
-            self.statewide = 2 * n
-            self.eligible = [rnd.choice([2, 3, 3]) for _ in range(rnd.choice([3, 3, 4]))]
         self.rows, percent = [], 0
         for _ in range(rnd.randint(1, 8)):
             self.rows.append([percent, rnd.choice([50, 100, 175, 300, 425, 500, rnd.randint(50, 500)])])
             percent += rnd.choice([1, 5, 20, 50, 100, 9000])
             if percent > 60000:
                 break
+        kind = rnd.random()
+        if kind < .2:  # a thin first round, with room for a cutback; one that makes a product at price 1 too much stops
+            n = rnd.randint(2, 4)
+            self.targets = sorted((rnd.randint(2, 9) for _ in range(n)), reverse=True)
+            self.caps = [rnd.randint(t // 2 + 1, t) for t in self.targets]
+            self.prices = [1 if rnd.random() < .3 else rnd.choice([2, 1000, 14500]) for _ in range(n)]
+            self.statewide = sum(self.targets) * rnd.randint(40, 70) // 100
+            self.eligible = [self.statewide] * rnd.choice([2, 2, 3])
+        elif kind < .5:  # many tranches of few bidders, and prices that fall far: lots are retained in part and outbid
+            n = rnd.choice([1, 2, 2, 2, 3])
+            self.targets = sorted((rnd.choice([4, 6, 9, 15, 40, 200]) for _ in range(n)), reverse=True)
+            self.caps = list(self.targets)
+            self.prices = [rnd.choice([100, 1000, 1000, 99999]) for _ in range(n)]
+            self.statewide = sum(self.targets)
+            self.eligible = [rnd.randint(self.statewide // 2 + 1, self.statewide) for _ in range(rnd.choice([2, 3, 3, 4, 5]))]
+            self.rows = [[0, rnd.choice([300, 500])]]
+        elif kind < .75:  # few bidders for small products, much like setting T: switches are denied, outbid and deemed bid
+            n = rnd.choice([2, 2, 3])
+            self.targets = self.caps = [2] * n
+            self.prices = [1000] * n
+            self.statewide = 2 * n
+            self.eligible = [rnd.choice([2, 3, 3]) for _ in range(rnd.choice([3, 3, 4]))]
 
     def spoil(self, rnd):
         """One setting out of its limits, or not far from them."""
@@ -100,7 +110,15 @@ def spoiled_opening(rnd):
     return settings.line(rnd)
 
 
-def good_bid(rnd, a, i):
+def mood_of(rnd, a):
+    """What most bidders are after in a round: to leave a product that ticked, to go into one where something is kept, or nothing."""
+    ticked = [j for j in range(a.products) if a.ticked(j)]
+    kept = [j for j in range(a.products) if a.kept(j) > 0]
+    moods = [('', None)] + [('leave', j) for j in ticked] * 2 * (len(ticked) > len(kept)) + [('enter', j) for j in kept] * 3 * bool(ticked)
+    return rnd.choice(moods) if a.round > 1 else moods[0]
+
+
+def good_bid(rnd, a, i, mood=('', None)):
     """A bid of bidder i that passes 8 to 13, where one is found."""
     n = a.products
     own = a.record[i]
@@ -111,10 +129,18 @@ def good_bid(rnd, a, i):
         move = rnd.random()
         if a.round == 1:
             b.append(top if move < .6 else rnd.randint(0, top))
+        elif mood == ('leave', j) and move < .9:
+            b.append(rnd.randint(0, g // 2))
+        elif mood[0] == 'leave' and move < .8:
+            b.append(g)
+        elif mood == ('enter', j) and move < .9:
+            b.append(min(max(g, top), g + rnd.choice([1, 2, 3, 7, 20])))
+        elif mood[0] == 'enter' and a.ticked(j) and move < .9:
+            b.append(max(0, g - rnd.choice([1, 2, 3, 7, 20])))
         elif a.ticked(j):
-            b.append(g if move < .5 else max(0, g - rnd.choice([1, 1, 2, 3, g])) if move < .85 else rnd.randint(0, top))
+            b.append(g if move < .4 else max(0, g - rnd.choice([1, 1, 2, 3, g // 2, g])) if move < .85 else rnd.randint(0, top))
         else:
-            b.append(g if move < (.2 if own[j].d else .5) else min(max(g, top), g + rnd.choice([1, 1, 2, 3])))
+            b.append(g if move < (.2 if own[j].d else .4) else min(max(g, top), g + rnd.choice([1, 1, 2, 3, 7, 20])))
     order = list(range(n))
     rnd.shuffle(order)
     for j in order:
@@ -132,17 +158,64 @@ def good_bid(rnd, a, i):
         take = min(R[j], w)
         withdrawn[j] = take
         w -= take
-    exits = [0] * n
-    for j in range(n):
-        if withdrawn[j] > 0 and a.q[j] > a.p[j]:
-            exits[j] = rnd.choice([a.q[j], a.p[j] + 1, rnd.randint(a.p[j] + 1, a.q[j])])
+    lots = [some_lots(rnd, a, j, withdrawn[j]) for j in range(n)]
     priority = [0] * n
     if s > 0:
         up = [j for j in range(n) if I[j] > 0]
         rnd.shuffle(up)
         for k, j in enumerate(up):
             priority[j] = k + 1
-    return [[b[j], withdrawn[j], exits[j], priority[j]] for j in range(n)]
+    return [[b[j], lots[j], priority[j]] for j in range(n)]
+
+
+def some_lots(rnd, a, j, count):
+    """So many tranches withdrawn, in one to four lots with prices that rise; mostly of few prices, so that bidders tie."""
+    p, q = a.p[j], a.q[j]
+    if count == 0 or p == q:
+        return [(count, 0)] * (count > 0)
+    few = {q, p + 1, min(q, p + 2), (p + q + 1) // 2, max(p + 1, q - 1)}
+    prices = list(few) + [rnd.randint(p + 1, q)] if rnd.random() < .8 else [rnd.randint(p + 1, q) for _ in range(4)]
+    many = min(count, len(set(prices)), rnd.choice([1, 2, 3, 4, 4, 4]))
+    cuts = sorted(rnd.sample(range(1, count), many - 1))
+    counts = [high - low for low, high in zip([0] + cuts, cuts + [count])]
+    return list(zip(counts, sorted(rnd.sample(sorted(set(prices)), many))))
+
+
+def wrong_lots(rnd, a, j, lots):
+    """Lots against 11 or 12, mostly in one way."""
+    p, q = a.p[j], a.q[j]
+    lots, k = list(lots) or [(0, 0)], rnd.randrange(max(1, len(lots)))
+    count, x = lots[k]
+    what = rnd.choice(['gap', 'equal', 'falling', 'unused', 'low', 'high', 'more', 'less', 'large', 'behind', 'shifted'])
+    if what == 'gap' and len(lots) < 4:
+        lots.insert(rnd.randrange(len(lots)), (0, rnd.choice([0, 0, x])))
+    elif what in ('equal', 'falling') and count > 1 and len(lots) < 4:
+        part = rnd.randrange(1, count)
+        lots[k:k + 1] = [(part, x), (count - part, x if what == 'equal' else max(0, x - 1))]
+    elif what == 'falling':
+        lots = list(reversed(lots))
+    elif what in ('equal', 'unused'):
+        lots[rnd.choice([k, -1])] = (rnd.choice([0, count]), rnd.choice([1, p, p + 1, q, x]))
+        if len(lots) < 4:
+            lots.append((0, rnd.choice([1, p, q, x, 131071])))
+    elif what in ('low', 'high'):
+        lots[k] = (count, rnd.choice([p, 0, p]) if what == 'low' else rnd.choice([q + 1, q + 1, 131071]))
+    elif what == 'more':
+        lots[k] = (min(255, count + rnd.choice([1, 1, 2])), x or q)
+    elif what == 'less':
+        lots[k] = (max(0, count - 1), x)
+    elif what == 'large':  # 256 more in all, so that the last byte of the sum is right
+        lots = (lots + [(0, q)] * 4)[:4]
+        over = 256
+        for k, (count, x) in enumerate(lots):
+            more = min(over, 255 - count) if rnd.random() < .7 or k == 3 else min(over, 255 - count, rnd.randrange(256))
+            lots[k] = (count + more, x)
+            over -= more
+    elif what == 'behind':  # what is behind a gap counts for 11
+        lots = (lots[:2] + [(0, 0)] * 4)[:3] + [(rnd.choice([1, 2, 255]), q)]
+    else:
+        lots = ([(0, 0)] + lots)[:4]
+    return lots
 
 
 NUMBERS = [0, 0, 1, 1, 2, 3, 5, 7, 8, 31, 32, 200, 201, 255, 256, 257, 4095, 4096, 65535, 65536, 99999, 100000, 131071, 131072,
@@ -151,12 +224,20 @@ NUMBERS = [0, 0, 1, 1, 2, 3, 5, 7, 8, 31, 32, 200, 201, 255, 256, 257, 4095, 409
 
 def spoiled_fields(rnd, a, lines):
     lines = [list(l) for l in lines]
+
+    def near(v):
+        return max(0, v + rnd.choice([-1, 1, 1, 2])) if rnd.random() < .8 else rnd.choice(NUMBERS)
     for _ in range(rnd.choice([1, 1, 2])):
-        j, k = rnd.randrange(len(lines)), rnd.randrange(4)
-        if k == 2:
-            lines[j][k] = rnd.choice([0, a.p[j], a.p[j] + 1, a.q[j], a.q[j] + 1, rnd.choice(NUMBERS)])
+        j, k = rnd.randrange(len(lines)), rnd.randrange(3)
+        if k == 1:
+            lots = list(lines[j][1]) + [(0, 0)] * (len(lines[j][1]) < 4)
+            at = rnd.randrange(len(lots))
+            count, x = lots[at]
+            lots[at] = (near(count), x) if rnd.random() < .5 else (
+                count, rnd.choice([0, a.p[j], a.p[j] + 1, a.q[j], a.q[j] + 1, rnd.choice(NUMBERS)]))
+            lines[j][1] = lots
         else:
-            lines[j][k] = max(0, lines[j][k] + rnd.choice([-1, 1, 1, 2])) if rnd.random() < .8 else rnd.choice(NUMBERS)
+            lines[j][k] = near(lines[j][k])
     return lines
 
 
@@ -167,10 +248,10 @@ def against_a_rule(rnd, a, i, lines):
     rnd.shuffle(places)
     reduced = [j for j in places if lines[j][0] < own[j].g]
     raised = [j for j in places if lines[j][0] > own[j].g]
-    withdrawn = [j for j in places if lines[j][1] > 0]
+    withdrawn = [j for j in places if lines[j][1]]
     fixed = [j for j in places if own[j].g > 0 and not a.ticked(j)]
-    switched = any(l[3] for l in lines)
-    what = rnd.choice(['cap', 'room'] + ['fixed'] * 3 * bool(fixed) + ['more', 'exit', 'priority'] + ['less', 'price'] * bool(withdrawn)
+    switched = any(l[2] for l in lines)
+    what = rnd.choice(['cap', 'room'] + ['fixed'] * 3 * bool(fixed) + ['more', 'exit', 'priority'] + ['lots'] * 9 * bool(withdrawn)
                       + ['others', 'numbers', 'numbers'] * 2 * switched + ['numbers'] * 30 * (switched and len(raised) > 1))
     if what == 'cap':
         j = places[0]
@@ -181,23 +262,25 @@ def against_a_rule(rnd, a, i, lines):
         for j in places:
             lines[j][0] = a.cap[j] - own[j].d - own[j].r
     elif what == 'more':
-        lines[(reduced or places)[0]][1] += 1
-    elif what == 'less':
-        lines[withdrawn[0]][1] -= 1
-    elif what == 'price':
-        j = withdrawn[0]
-        lines[j][2] = rnd.choice([0, a.p[j], a.q[j] + 1, 131071])
+        j = (reduced or places)[0]
+        lines[j][1] = wrong_lots(rnd, a, j, lines[j][1] or [(1, a.q[j])])
+    elif what == 'lots':
+        lines[withdrawn[0]][1] = wrong_lots(rnd, a, withdrawn[0], lines[withdrawn[0]][1])
     elif what == 'exit':
         for j in [j for j in places if j not in withdrawn][:1]:
-            lines[j][2] = rnd.choice([1, a.p[j], a.q[j]])
+            lines[j][1] = [(0, 0)] * rnd.choice([0, 0, 1, 3]) + [(0, rnd.choice([1, a.p[j], a.q[j]]))]
     elif what in ('priority', 'others'):
         for j in [j for j in places if j not in raised][:1]:
-            lines[j][3] = rnd.randint(1, 7)
+            lines[j][2] = rnd.randint(1, 7)
     else:
         same = len(raised) > 1 and rnd.random() < .8
         for j in raised if same else raised[:1]:
-            lines[j][3] = 1 if same else rnd.choice([0, 2, 7])
+            lines[j][2] = 1 if same else rnd.choice([0, 2, 7])
     return lines
+
+
+def card_of(n, bidder, round, lines):
+    return model.write_card(n, bidder, round, model.eight([model.Line(b, model.four(lots), k) for b, lots, k in lines]))
 
 
 def spoiled_card(rnd, a, i, lines):
@@ -205,24 +288,31 @@ def spoiled_card(rnd, a, i, lines):
     what = rnd.randrange(5)
     round = a.round + (rnd.choice([-1, 1]) if what == 0 else 0)
     bidder = rnd.randint(min(31, a.bidders), 31) if what == 1 else i
-    card = bytearray(model.write_card(a.products, bidder, round, model.groups(sum(lines, []))))
+    card = bytearray(card_of(a.products, bidder, round, lines))
     if what == 2:
         card = card[:rnd.randint(1, len(card) - 1)]
     elif what == 3:
         card += bytes(rnd.randint(1, 9))
-    elif what == 4:
-        card[-1] |= 1 << rnd.randrange(3)
+    elif what == 4:  # with one product there are none, and this is a priority
+        card[-1] |= 1 << rnd.randrange(max(1, 8 * len(card) - model.card_bits(a.products)))
     return 'file ' + bytes(card).hex()
 
 
 def large_fields(rnd, a, i, lines):
     """A bid of which one field does not fit its bits."""
     lines = [list(l) for l in lines]
-    j, k = rnd.randrange(len(lines)), rnd.randrange(5)
-    if k == 4:
-        return bid_line(rnd.choice([32, 255, 256, 4294967295]), lines)
-    lines[j][k] = rnd.choice(([256, 65536], [256, 65536], [131072, 4294967295], [8, 255, 256])[k])
-    return bid_line(i, lines)
+    j, k = rnd.randrange(len(lines)), rnd.choice([0, 1, 1, 1, 1, 2, 3])
+    if k == 3:
+        return bid_line(rnd, rnd.choice([32, 255, 256, 4294967295]), lines)
+    if k == 1:
+        lots = list(model.four(lines[j][1]))
+        at = rnd.randrange(4)
+        lots[at] = rnd.choice([(rnd.choice([256, 257, 65535, 65536, 65537, 4294967295]), lots[at][1]),
+                               (lots[at][0], rnd.choice([131072, 131073, 262143, 4294967295]))])
+        lines[j][1] = lots
+    else:
+        lines[j][k] = rnd.choice(([256, 65536], None, [8, 255, 256])[k])
+    return bid_line(rnd, i, lines)
 
 
 def wrong_draw(rnd, m):
@@ -333,8 +423,38 @@ def cutback(rnd, a):
     return spoiled_text(rnd, line) if rnd.random() < .08 else line
 
 
-def bid_line(i, lines):
-    return 'bid %d ' % i + ' '.join(' %d %d %d %d' % tuple(l) for l in lines)
+def lots_text(rnd, lots):
+    """The same lots in one of the forms that are read: as it is written, with more lots of 0, or with zeros before the numbers."""
+    text = model.as_text(model.four(lots))
+    if rnd.random() < .9:
+        return text
+    more = list(lots) + [(0, 0)] * rnd.randint(0, 4 - len(lots))
+    return ','.join('%s%d@%s%d' % (rnd.choice(['', '0', '00000000000']), count, rnd.choice(['', '0']), x) for count, x in more) or '-'
+
+
+def group_text(rnd, b, lots, priority):
+    """What is typed of one product: three words, or where one lot at most is given, at times four numbers."""
+    if len(lots) <= 1 and rnd.random() < .4:
+        return '  %d %d %d %d' % ((b,) + (list(lots) + [(0, 0)])[0] + (priority,))
+    return '  %d %s %d' % (b, lots_text(rnd, lots), priority)
+
+
+def bid_line(rnd, i, lines):
+    return 'bid %d' % i + ''.join(group_text(rnd, *l) for l in lines)
+
+
+NO_LOTS = ['3@', '@5', '@', '3@5,', ',3@5', '3@5,,2@6', '3@5@6', '3@@5', '3@-5', '-3@5', '--', '-,3@5', '3@5,-', '-@5', '3@x', 'x@5',
+           '3@5;2@6', '3@5.0', '3.0@5', '3@5,2', '2,3@5', '1@1,1@2,1@3,1@4,1@5', '0@0,0@0,0@0,0@0,0@0', '4294967296@5', '3@4294967296',
+           '99999999999999999999@5', '3@5,2@99999999999999999999', '3@5,2@6,', '+3@5', '3@0x5', '@@@', ',', ',,,', '3@5,x@',
+           '1@1,1@2,1@3,1@4,x']
+
+
+def without_lots(rnd, i, lines):
+    """A bid in which a word that should be lots is none."""
+    groups = [group_text(rnd, *l) for l in lines]
+    j = rnd.randrange(len(lines))
+    groups[j] = '  %d %s %d' % (lines[j][0], rnd.choice(NO_LOTS), lines[j][2])
+    return 'bid %d' % i + ''.join(groups)
 
 
 def spoiled_text(rnd, line):
@@ -349,7 +469,7 @@ def spoiled_text(rnd, line):
             words.insert(k, words[k])
         elif what == 2:
             words[k] = rnd.choice(['x', '-1', '+1', '1.0', '4294967295', '4294967296', '99999999999999999999', '00000000000000007', '0x1',
-                                   '99999999999x', '#', '0g', 'G', 'abc', 'AB', 'Fe0'])
+                                   '99999999999x', '#', '0g', 'G', 'abc', 'AB', 'Fe0', '-', '1@1', '1@2,3@4', '0@0', '1@'])
         elif what == 3:
             words[k] = words[k].upper()
         elif what == 4:
@@ -362,7 +482,7 @@ def spoiled_text(rnd, line):
             words = words[:k + 1]
         elif what == 8 and words[k]:
             p = rnd.randrange(len(words[k]))
-            words[k] = words[k][:p] + rnd.choice('0123456789abcdefgzkwh-#') + words[k][p + 1:]
+            words[k] = words[k][:p] + rnd.choice('0123456789abcdefgzkwh-#@,') + words[k][p + 1:]
         else:
             words[k] = str(rnd.choice(NUMBERS))
     return ' '.join(words)
@@ -375,8 +495,14 @@ def folded(rnd, line):
 
 
 def some_card(rnd, n):
-    lines = [[rnd.choice(NUMBERS) % 256, rnd.randrange(3), rnd.choice(NUMBERS) % 131072, rnd.randrange(8)] for _ in range(n)]
-    return model.write_card(n, rnd.randrange(32), rnd.choice([0, 1, 2, 3, 4095]), model.groups(sum(lines, [])))
+    return card_of(n, rnd.randrange(32), rnd.choice([0, 1, 2, 3, 4095]), [some_line(rnd) for _ in range(n)])
+
+
+def some_line(rnd):
+    """Of a card: any numbers that fit their bits. Reading and writing do not judge lots."""
+    most = rnd.choice([1, 3, 256])
+    lots = [(rnd.randrange(most), rnd.choice(NUMBERS + [0] * 9) % 131072) for _ in range(rnd.randint(0, 4))]
+    return [rnd.choice(NUMBERS) % 256, lots, rnd.randrange(8)]
 
 
 def loose_line(rnd):
@@ -384,13 +510,26 @@ def loose_line(rnd):
     n = rnd.choice([1, 2, 3, 4, 5, 6, 7, 8, 8, 0, 9, 256])
     if what >= 9:  # one field too large for its bits, or not 0 past the count
         k = rnd.randint(1, 8)
-        fields = [rnd.randrange(32), rnd.randrange(4096)]
-        for _ in range(k):
-            fields += [rnd.randrange(256), rnd.randrange(3), rnd.randrange(131072), rnd.randrange(8)]
-        at = rnd.randrange(len(fields))
-        most = [31, 4095][at] if at < 2 else [255, 255, 131071, 7][(at - 2) % 4]
-        fields[at] = rnd.choice([most + 1, most + 1, 2 * most + 1, 65536, 4294967295])
-        return 'write %d ' % rnd.choice([k, k, k, rnd.randint(1, k)]) + ' '.join(map(str, fields))
+        first, lines = [rnd.randrange(32), rnd.randrange(4096)], [some_line(rnd) for _ in range(k)]
+        line = rnd.choice(lines)
+        at = rnd.randrange(5)
+
+        def large(most):
+            return rnd.choice([most + 1, most + 1, 2 * most + 1, 65536, 4294967295])
+        if at == 0:
+            first[0] = large(31)
+        elif at == 1:
+            first[1] = large(4095)
+        elif at == 2:
+            line[0] = large(255)
+        elif at == 3:
+            line[2] = large(7)
+        else:
+            lots = list(model.four(line[1]))
+            place = rnd.randrange(4)
+            lots[place] = (large(255), lots[place][1]) if rnd.random() < .5 else (lots[place][0], large(131071))
+            line[1] = lots
+        return 'write %d %d %d' % (rnd.choice([k, k, k, rnd.randint(1, k)]), *first) + ''.join(group_text(rnd, *l) for l in lines)
     if what == 0:
         return 'read %d %s' % (n, some_card(rnd, n if 1 <= n <= 8 else 1).hex())
     if what == 1:
@@ -403,10 +542,14 @@ def loose_line(rnd):
             '  %d %d %d %d' % tuple(rnd.choice(NUMBERS + [0] * 20) for _ in range(4)) for _ in range(k))
     if what == 3:
         k = rnd.randint(1, 8)
-        return 'write %d %d %d' % (k, rnd.randrange(32), rnd.randrange(4096)) + ''.join(
-            '  %d %d %d %d' % (rnd.randrange(256), rnd.randrange(256), rnd.randrange(131072), rnd.randrange(8)) for _ in range(k))
+        line = 'write %d %d %d' % (k, rnd.randrange(32), rnd.randrange(4096)) + ''.join(group_text(rnd, *some_line(rnd)) for _ in range(k))
+        if rnd.random() < .3:
+            words = line.split(' ')
+            words[rnd.randrange(4, len(words))] = rnd.choice(NO_LOTS)
+            line = ' '.join(words)
+        return line
     if what == 4:
-        return 'file ' + bytes(rnd.randrange(256) for _ in range(rnd.choice([0, 1, 7, 12, 16, 21, 39, 40, 500, 1021]))).hex()
+        return 'file ' + bytes(rnd.randrange(256) for _ in range(rnd.choice([0, 1, 7, 15, 16, 17, 30, 44, 58, 114, 115, 500, 1021]))).hex()
     if what == 5:
         return rnd.choice(['', '   ', '# remark', '  # remark', 'help', '?', 'help bid', '? open', 'help units', 'help nothing',
                            'help bid 1', '?? ', 'nothing', 'missing', 'filed', 'names', 'report all', 'name bidder 0 A', 'open', 'bid',
@@ -419,7 +562,7 @@ def loose_line(rnd):
     if what == 7:
         return 'cutback' + ''.join(' %d' % rnd.choice(NUMBERS) for _ in range(rnd.choice([1, 2, 4, 6, 14, 15, 16, 17, 18])))
     return 'x' * rnd.choice([1, 2047, 2048, 2049, 2050, 4097, 5000]) if rnd.random() < .3 else 'read 2 ' + ' ' * rnd.choice(
-        [2016, 2017, 2018, 2019]) + '080100800000001000000080'
+        [1980, 1981, 1982, 1983]) + card_of(2, 1, 2, [[1, [], 0], [2, [], 1]]).hex()
 
 
 def session(rnd, desk, lines, answers, states):
@@ -430,7 +573,10 @@ def session(rnd, desk, lines, answers, states):
         lines.append(line)
         if rnd.random() < .03:
             states.append(desk.state)
+        before = desk.state
         answers.append(desk.answers(line.encode()))
+        if desk.state != before and any(desk.state):
+            assert desk.stands() and model.store(model.load(desk.state)) == desk.state, line
         return answers[-1]
     say('return')
     if rnd.random() < .3:
@@ -462,14 +608,17 @@ def session(rnd, desk, lines, answers, states):
         who = list(range(a.bidders))
         rnd.shuffle(who)
         absent = rnd.choice([0, 0, 0, 0, 0, 0, .05, .3])
+        mood = mood_of(rnd, a)
         for i in who:
             if rnd.random() < absent:
                 continue
-            fields = good_bid(rnd, a, i)
+            fields = good_bid(rnd, a, i, mood)
             if rnd.random() < .1:
-                say(bid_line(i, spoiled_fields(rnd, a, fields)))
-            if rnd.random() < (.6 if any(l[3] > 1 for l in fields) else .2):
-                say(bid_line(i, against_a_rule(rnd, a, i, fields)))
+                say(bid_line(rnd, i, spoiled_fields(rnd, a, fields)))
+            if rnd.random() < (.6 if any(l[2] > 1 for l in fields) else .5 if any(l[1] for l in fields) else .2):
+                say(bid_line(rnd, i, against_a_rule(rnd, a, i, fields)))
+            if rnd.random() < .04:
+                say(without_lots(rnd, i, fields))
             if rnd.random() < .04:
                 say(large_fields(rnd, a, i, fields))
             if rnd.random() < .06:
@@ -478,16 +627,16 @@ def session(rnd, desk, lines, answers, states):
                 except model.Refused:
                     pass
             if rnd.random() < .03:
-                say(spoiled_text(rnd, bid_line(i, fields)))
+                say(spoiled_text(rnd, bid_line(rnd, i, fields)))
             if rnd.random() < .2:
                 try:
-                    card = model.write_card(a.products, i, a.round + (rnd.random() < .05), model.groups(sum(fields, [])))
+                    card = card_of(a.products, i, a.round + (rnd.random() < .05), fields)
                     line = 'file ' + card.hex()
                     say(line if rnd.random() < .9 else spoiled_text(rnd, line))
                 except model.Refused:
                     pass
             else:
-                say(bid_line(i, fields))
+                say(bid_line(rnd, i, fields))
             if rnd.random() < .03:
                 say(rnd.choice(['count', 'show', 'result', 'report %d' % i, 'report 255']))
             if rnd.random() < .06:
@@ -529,9 +678,11 @@ def session(rnd, desk, lines, answers, states):
 
 REMARKS = [(number, re.compile(pattern)) for number, pattern in [
     (1, 'a box has'), (2, 'only return'), (3, 'the box is issued'), (3, 'the auction is closed'), (3, 'the auction is stopped'),
-    (3, 'no auction is open'), (4, 'bytes, and a card of'), (5, 'its last 3 bits'), (5, 'its last 7 bits'), (6, 'and the bidders are'),
+    (3, 'no auction is open'), (4, 'bytes, and a card of'), (5, 'its last 1 bits'), (5, 'its last [2-7] bits'), (6, 'and the bidders are'),
     (7, 'the card is of round'), (8, 'against'), (9, 'or more are allowed'), (10, 'bid in all'), (11, 'the reduction is'),
-    (11, 'withdrawn in all'), (12, 'the price before'), (12, 'where nothing is withdrawn'), (13, 'where nothing is switched'),
+    (11, ' (2[5-9][0-9]|[3-9][0-9][0-9]|1[0-9][0-9][0-9]) withdrawn where'), (11, 'withdrawn in all'), (12, 'the price before'),
+    (12, 'where nothing is withdrawn'), (12, 'used lots come first'), (12, 'where lot [1-3] has'), (12, 'nothing is allowed'),
+    (13, 'where nothing is switched'),
     (13, 'where nothing is increased'), (13, 'is given 0 times'), (13, 'is given [2-8] times'), (14, 'is unknown'), (14, 'stands'),
     (14, 'is missing'), (14, 'is unknown, .* stands .* is missing'), (15, 'target'), (15, ', cap'), (15, 'starting price'),
     (15, 'statewide cap'), (15, 'eligibility'), (15, 'row 0, percentage'), (15, 'row [1-7], percentage'), (15, 'decrement'),
@@ -539,7 +690,8 @@ REMARKS = [(number, re.compile(pattern)) for number, pattern in [
     (16, 'the auction is stopped'), (17, 'an auction is open'), (17, 'an auction is closed'), (17, 'an auction is stopped'), (17, 'byte'),
     (18, 'round 1'), (19, ', 0 basis points'), (19, ', 1001 basis points'), (19, ', 65535 basis points'), (20, 'belongs to round 2'),
     (20, 'has filed'), (20, 'target'), (20, ', cap'), (20, 'tranches in all'),
-    (29, 'products'), (30, ': bidder'), (30, ': round'), (30, 'tranches'), (30, 'withdrawn .* 0 to'), (30, 'exit'), (30, 'priority'),
+    (29, 'products'), (30, ': bidder'), (30, ': round'), (30, 'tranches'), (30, 'lot 1, withdrawn .* 0 to'), (30, 'lot [2-4], withdrawn'),
+    (30, 'lot 1, exit'), (30, 'lot [2-4], exit'), (30, 'priority'),
     (30, '; 0 is allowed'), (31, 'the ratio is 0'), (31, 'bid; 0 to 51200'), (8, r'\(.*\)'), (14, r'\(.*\)'), (19, r'\(.*\)'),
     (20, r'\(.*\)'), (30, r'product [0-9]+ \('),
 ]]
@@ -553,9 +705,15 @@ SAID = [re.compile(pattern) for pattern in [
     'every bidder has filed', '^    card', '; retained at', r'default bids: .*\(', r'still to file: .*\(',
     r'^  bidder [0-9]+ \(.*\) on product [0-9]+ \(.*\): ', '^ok not filed', '^ok [0-9]+ of [0-9]+', 'error name is for',
     'error a name is missing', 'error a name has at most', 'error a name has no brackets', 'has this name', 'error bidders are',
-    'error products are [0-9]', 'error names belong', 'next .* overridden$', 'held [0-9]+ overridden$', 'exit [0-9]+ overridden$',
+    'error products are [0-9]', 'error names belong', 'next .* overridden$', 'held [0-9]+ overridden$', 'retained .* overridden$',
     r'\) .* overridden$', 'does nothing: it is not above target', 'does nothing: there is no such product', 'does nothing: no price falls',
     'error an override is', 'error products are numbered', 'error a product has one override',
+    'retained [0-9]+@[0-9]+$', 'retained [0-9]+@[0-9]+,[0-9]+@[0-9]+$', 'retained( [0-9]+@|,[0-9]+@){1}[^,]*(,[^,]*){3}$',
+    'card.* [0-9]+@[0-9]+(,[0-9]+@[0-9]+){3} ', 'withdrawn at [0-9]+(, [0-9]+ at [0-9]+){3}( =|$|, priority)',
+    ': [0-9]+ of [0-9]+ retained at', 'retained at .* of [0-9]+ at', ' of [0-9]+ retained outbid, gone, at', 'gone, at [0-9]+, ',
+    '; retained at [^ ]*, ',
+    'error a product has tranches, lots', 'error lots are', 'error a lot is missing', 'error a lot has a count', 'error a lot has one @',
+    'error a product has at most four lots', 'error a bid in this auction has',
 ]]
 
 
@@ -612,22 +770,23 @@ def told(name, wrong):
     return not wrong
 
 
-def play(sessions, seed, met):
+def play(sessions, seed, met, alone=False):
     """Sessions by tens, each ten in one run of the desk: the tests' results, states met on the way, and how each command was answered."""
     rnd = random.Random(seed)
     results, states = [], []
     tally = collections.defaultdict(collections.Counter)
     for first in range(0, sessions, 10):
-        desk, lines, answers = model.Desk(), [], []
+        desk, lines, answers, wrong = model.Desk(), [], [], []
         last = min(first + 10, sessions)
         for _ in range(first, last):
             session(rnd, desk, lines, answers, states)
-        got, beside, status = run_desk('\n'.join(lines).encode() + rnd.choice([b'\n', b'']))
-        wrong = [found for found in [differ(lines, answers, got)] if found]
-        if beside:
-            wrong.append('beside the answers: ' + beside)
-        if status != desk.status:
-            wrong.append('status %d, not %d' % (status, desk.status))
+        if not alone:
+            got, beside, status = run_desk('\n'.join(lines).encode() + rnd.choice([b'\n', b'']))
+            wrong = [found for found in [differ(lines, answers, got)] if found]
+            if beside:
+                wrong.append('beside the answers: ' + beside)
+            if status != desk.status:
+                wrong.append('status %d, not %d' % (status, desk.status))
         results.append(told('second model: sessions %d to %d, %d lines' % (first + 1, last, len(lines)), wrong))
         for line, said in zip(lines, answers):
             met.add(said)
@@ -637,29 +796,61 @@ def play(sessions, seed, met):
     return results, states, tally
 
 
-def largest(met):
+def lots_all(a, bidder):
+    """All that the bidder has of each product in four lots, at prices of its own."""
+    def lots(j, g):
+        top = a.q[j] - bidder % 8
+        return ','.join('%d@%d' % (count, top - 3 + k) for k, count in enumerate([g - 3 * (g // 4), g // 4, g // 4, g // 4]))
+    return 'bid %d' % bidder + ''.join('  0 %s 0' % lots(j, a.record[bidder][j].g) for j in range(8))
+
+
+def largest(met, alone=False):
     """8 products, 32 bidders, all with names of 24 bytes and the largest numbers: the longest answers."""
-    lines = []
+    lines, desk, answers = [], model.Desk(), []
+
+    def say(*more):
+        for line in more:
+            lines.append(line)
+            answers.append(desk.answers(line.encode()))
+
+    def named(unit, rows):
+        say('open %s 1600 product' % unit + ' 200 200 99999' * 8 + ' bidder' + ' 1600' * 32 + rows)
+        say(*('name bidder %d %s%02d' % (i, 'B' * 22, i) for i in range(32)))
+        say(*('name product %d %s%d' % (j, 'P' * 23, j) for j in range(8)))
     for unit, first in (('mwday', 200), ('kwh', 8)):  # 7 of each product by each bidder is too much, and by default all withdrawn
         rows = ''.join(' %d 500' % k for k in range(8))
-        lines.append('open %s 1600 product' % unit + ' 200 200 99999' * 8 + ' bidder' + ' 1600' * 32 + ' row' + rows)
-        lines += ['name bidder %d %s%02d' % (i, 'B' * 22, i) for i in range(32)]
-        lines += ['name product %d %s%d' % (j, 'P' * 23, j) for j in range(8)]
+        named(unit, ' row' + rows)
         draw = 'calculate ' + ' '.join(map(str, range(32))) + ' override' + ''.join(' %d 1000' % j for j in range(8))
         for b in (first, first - 1):
-            lines += ['missing'] + ['bid %d' % i + ' %d 0 0 0' % b * 8 for i in range(32)]
-            lines += ['filed', 'filed 31', 'names', 'show', 'calculate 1 1 255', draw, 'report 31', 'report all', 'show', 'missing']
+            say('missing', *('bid %d' % i + ' %d 0 0 0' % b * 8 for i in range(32)))
+            say('filed', 'filed 31', 'names', 'show', 'calculate 1 1 255', draw, 'report 31', 'report all', 'show', 'missing')
             if b == first:
-                lines += ['cutback' + ' 200 %d' % b * 8, 'cutback' + ' 200 %d' % (b - 1) * 8]
-        lines += [draw, 'report all', draw, 'result', 'show', 'report all', 'return']
-    desk = model.Desk()
-    answers = [desk.answers(line.encode()) for line in lines]
+                say('cutback' + ' 200 %d' % b * 8, 'cutback' + ' 200 %d' % (b - 1) * 8)
+        # everybody withdraws all in four lots, of which as many are retained as the target asks for
+        a = model.load(desk.state)
+        say(*(lots_all(a, i) for i in range(32)))
+        say('filed', 'filed 31', 'show', draw, 'report all', 'show', draw, 'result', 'show', 'report all', 'return')
+    # a line for every bidder and product and every kind of move: of seven products 201 tranches are bid, of each bidder four in lots are
+    # withdrawn and the others moved to the last product, and all of these but one are retained or denied; then all are deemed bid or outbid
+    draw = 'calculate ' + ' '.join(map(str, range(32)))
+    for unit in ('kwh', 'mwday'):
+        named(unit, ' row 0 500')
+        going = [7] * 9 + [6] * 23
+        say(*('bid %d' % i + '  %d - 0' % going[i] * 7 + '  64 - 0' for i in range(32)), draw)
+        lots = '  0 1@99996,1@99997,1@99998,1@99999 0'
+        say(*('bid %d' % i + lots * 7 + '  %d - 1' % (64 + 7 * (going[i] - 4)) for i in range(32)))
+        say('show', 'filed', draw, 'show', 'report all')
+        a = model.load(desk.state)
+        say(*('bid %d' % i + ''.join('  7 - %d' % (j + 1) for j in range(7)) + '  %d - 0' % (a.record[i][7].g - 49) for i in range(32)))
+        say('show', draw, 'show', 'report all', 'return')
     for said in answers:
         met.add(said)
-    got, beside, status = run_desk('\n'.join(lines).encode() + b'\n')
-    wrong = [found for found in [differ(lines, answers, got)] if found]
-    size = max(sum(len(s) + 1 for s in said) for said in answers)
-    return [told('second model: the longest answers, of up to %d bytes' % size, wrong)]
+    wrong = []
+    if not alone:
+        got, beside, status = run_desk('\n'.join(lines).encode() + b'\n')
+        wrong = [found for found in [differ(lines, answers, got)] if found]
+    size, line = max((sum(len(s) + 1 for s in said), line.split()[0]) for line, said in zip(lines, answers))
+    return [told('second model: the longest answers, of up to %d bytes, to %s' % (size, line), wrong)]
 
 
 LOOK = ['count', 'report 0', 'report 1', 'result', 'show', 'calculate 0', 'calculate 0 1', 'calculate 1 0 2', 'return', 'file 00',
@@ -669,7 +860,25 @@ LOOK = ['count', 'report 0', 'report 1', 'result', 'show', 'calculate 0', 'calcu
 NAMED = [b'bidder 0 Alpha\nproduct 0 ACE\n', b'bidder 0 A  B\nbidder 1 Z\xc3\xbcrich\n', b'bidder 1 x\n']
 
 
+def other_lots(rnd, state):
+    """The state with the lots of a record or a card changed, to others that stand or not."""
+    a = model.load(state)
+    some = [(cell, j) for rows in (a.record, a.slot) for row in rows for j, cell in enumerate(row) if cell.lots != model.NONE]
+    if not some:
+        return state
+    cell, j = rnd.choice(some)
+    lots = model.used(cell.lots)
+    if rnd.random() < .5:
+        lots = some_lots(rnd, a, j, model.total(lots))
+    else:
+        lots = wrong_lots(rnd, a, j, lots)
+    cell.lots = model.four(lots)
+    return model.store(a)
+
+
 def spoiled_state(rnd, state):
+    if any(state) and rnd.random() < .5:
+        state = other_lots(rnd, state)
     state = bytearray(state)
     at = model.PLACE
     for _ in range(rnd.choice([0, 0, 1, 1, 1, 2])):
@@ -748,12 +957,18 @@ def boxes(many, seed, states, met):
 
 
 def main():
-    sessions, many, seed = (list(map(int, sys.argv[1:])) + [300, 300, 1][len(sys.argv) - 1:])[:3]
+    alone = sys.argv[1:2] == ['alone']
+    given = list(map(int, sys.argv[1 + alone:]))
+    if alone:
+        given.insert(1, 0)
+    sessions, many, seed = (given + [300, 300, 1][len(given):])[:3]
     met = Met()
-    results, states, tally = play(sessions, seed, met)
+    results, states, tally = play(sessions, seed, met, alone)
     for command in sorted(tally):
         print('    %s: %s' % (command, ', '.join('%s %d' % pair for pair in sorted(tally[command].items()))))
-    results += largest(met) + boxes(many, seed, states, met)
+    results += largest(met, alone)
+    if not alone:
+        results += boxes(many, seed, states, met)
     met.tell()
     print('%d passed, %d failed' % (results.count(True), results.count(False)))
     return 0 if all(results) else 1

@@ -1,5 +1,5 @@
 #!/usr/bin/env python3
-"""Document 01, with requests 1 and 3 of document 02, and the desk's text, written a second time.
+"""Document 01, with requests 1 to 3 of document 02, and the desk's text, written a second time.
 
     tests/model.py [BOX] < commands > answers
 
@@ -17,7 +17,7 @@ import sys
 PLACE = dict((name, int(at)) for name, at in (line.split('=') for line in subprocess.run(
     [os.path.join(os.path.dirname(os.path.abspath(__file__)), 'layout')], capture_output=True, text=True, check=True).stdout.split()))
 LENGTH = PLACE['STATE']
-PRODUCTS, BIDDERS, ROWS = 8, 32, 8
+PRODUCTS, BIDDERS, ROWS, LOTS = 8, 32, 8, 4
 OPEN, CLOSED, STOPPED = 1, 2, 3
 PHASE = {0: 'issued', OPEN: 'open', CLOSED: 'closed', STOPPED: 'stopped'}
 UNIT = {0: 'kwh', 1: 'mwday'}
@@ -34,7 +34,7 @@ WORDS = {
     9: "a reduction on a product that didn't tick",
     10: "sum of b above sum of g + f",
     11: "withdrawn above R on a product, or total not w",
-    12: "withdrawn > 0 and exit not in p < x <= q; or withdrawn = 0 and exit not 0",
+    12: "withdrawn > 0 and exit not in p < x <= q; or withdrawn = 0 and exit not 0; or lots out of order",
     13: "s > 0 and increased products not numbered 1 to k once each, others 0; or s = 0 and a priority not 0",
     14: "draw order wrong",
     15: "a setting outside the limits",
@@ -76,24 +76,82 @@ def pair(n):
     return min(n, 65535)
 
 
+# ---- Lots: pairs of a count and an exit price, always four; a lot is used where its count is above 0
+
+NONE = ((0, 0),) * LOTS
+
+
+def four(pairs):
+    """These lots, and unused ones behind them."""
+    assert len(pairs) <= LOTS, pairs
+    return tuple(pairs) + NONE[len(pairs):]
+
+
+def total(lots):
+    return 0 if lots is NONE else sum(count for count, _ in lots)
+
+
+def used(lots):
+    return [lot for lot in lots if lot[0] > 0]
+
+
+def single(lots):
+    """The exit price of each tranche by itself."""
+    return [x for count, x in lots for _ in range(count)]
+
+
+# "Prices strictly rise, used lots come first, unused ones are zero."
+def in_order(lots):
+    prices = [x for _, x in used(lots)]
+    return lots == four(used(lots)) and prices == sorted(set(prices))
+
+
+def between(lots, p, q):
+    """Each exit price above p, at most q."""
+    return all(p < x <= q for _, x in used(lots))
+
+
+def as_text(lots):
+    """COUNT@PRICE with commas between, up to the last that is not 0@0; - where there is none."""
+    many = max((k + 1 for k, lot in enumerate(lots) if lot != (0, 0)), default=0)
+    return ','.join('%d@%d' % lot for lot in lots[:many]) or '-'
+
+
 # ---- What is held
 
 class Record:
-    """Of one bidder on one product: g, d, r, and the exit price x of what is retained."""
-    def __init__(self, g=0, d=0, r=0, x=0):
-        self.g, self.d, self.r, self.x = g, d, r, x
+    """Of one bidder on one product: g, d, and what is retained, in lots; r is their sum."""
+    def __init__(self, g=0, d=0, lots=NONE):
+        self.g, self.d, self.lots = g, d, lots
 
-    def fields(self):
-        return self.g, self.d, self.r, self.x
+    @property
+    def r(self):
+        return total(self.lots)
+
+    def prices(self):
+        return [x for _, x in used(self.lots)]
+
+    def change(self, x, by):
+        """One more or one less in the lot that has this price; where none has it, in a new one behind the others. It stays in order."""
+        lots = used(self.lots) + [(0, x)] * (x not in self.prices())
+        self.lots = four(used([(count + by, price) if price == x else (count, price) for count, price in lots]))
+        assert in_order(self.lots), self.lots
+
+    def is_zero(self):
+        return self.g == self.d == 0 and self.lots == NONE
 
 
 class Line:
-    """Of a bid on one product: tranches b, withdrawn, exit price, switching priority."""
-    def __init__(self, b=0, withdrawn=0, exit=0, priority=0):
-        self.b, self.withdrawn, self.exit, self.priority = b, withdrawn, exit, priority
+    """Of a bid on one product: tranches b, withdrawn in lots, switching priority."""
+    def __init__(self, b=0, lots=NONE, priority=0):
+        self.b, self.lots, self.priority = b, lots, priority
 
-    def fields(self):
-        return self.b, self.withdrawn, self.exit, self.priority
+    @property
+    def withdrawn(self):
+        return total(self.lots)
+
+    def is_zero(self):
+        return self.b == self.priority == 0 and self.lots == NONE
 
 
 class Auction:
@@ -123,11 +181,10 @@ class Auction:
     def the_bidders(self):
         return 'the bidders are 0 to %d' % (self.bidders - 1)
 
-    # A price as people say it.
-    def people(self, x):
-        if self.unit == 0:
-            return '%d.%03d cents per kWh' % divmod(x, 1000)
-        return '$%d.%02d per MW-day' % divmod(x, 100)
+    # A price, or several, as people say them.
+    def people(self, *prices):
+        form, per = (('%d.%03d', ' cents per kWh'), ('$%d.%02d', ' per MW-day'))[self.unit]
+        return ', '.join(form % divmod(x, (1000, 100)[self.unit]) for x in prices) + per
 
     def price(self, x):
         return '%d = %s' % (x, self.people(x))
@@ -177,9 +234,15 @@ def load(state):
         a.initial[i], a.free[i] = take(2), take(2)
     for k in range(ROWS):
         a.percent[k], a.decrement[k] = take(2), take(2)
-    cells = BIDDERS * PRODUCTS
-    records = [Record(g, d, r, high << 16 | low) for g, d, r, high, low in struct.iter_unpack('>BBBBH', state[at:at + 6 * cells])]
-    lines = [Line(b, w, high << 16 | low, k) for b, w, high, low, k in struct.iter_unpack('>BBBHB', state[at + 6 * cells:at + 12 * cells])]
+
+    def lots(numbers):
+        """Of each the count, a byte, and the price, three bytes, of which the first stands by itself here."""
+        if not any(numbers):
+            return NONE
+        return tuple((numbers[k], numbers[k + 1] << 16 | numbers[k + 2]) for k in range(0, 3 * LOTS, 3))
+    middle = at + (2 + 4 * LOTS) * BIDDERS * PRODUCTS
+    records = [Record(g, d, lots(rest)) for g, d, *rest in struct.iter_unpack('>BB' + 'BBH' * LOTS, state[at:middle])]
+    lines = [Line(b, lots(rest), k) for b, *rest, k in struct.iter_unpack('>B' + 'BBH' * LOTS + 'B', state[middle:LENGTH])]
     for i in range(BIDDERS):
         a.record[i] = records[i * PRODUCTS:(i + 1) * PRODUCTS]
         a.slot[i] = lines[i * PRODUCTS:(i + 1) * PRODUCTS]
@@ -203,14 +266,22 @@ def store(a):
         put(2, a.initial[i], a.free[i])
     for k in range(ROWS):
         put(2, a.percent[k], a.decrement[k])
+
+    def put_lots(lots):
+        if lots is NONE:
+            out.extend(bytes(4 * LOTS))
+            return
+        for count, x in lots:
+            put(1, count)
+            put(3, x)
     for row in a.record:
         for c in row:
-            put(1, c.g, c.d, c.r)
-            put(3, c.x)
+            put(1, c.g, c.d)
+            put_lots(c.lots)
     for row in a.slot:
         for l in row:
-            put(1, l.b, l.withdrawn)
-            put(3, l.exit)
+            put(1, l.b)
+            put_lots(l.lots)
             put(1, l.priority)
     return bytes(out)
 
@@ -258,9 +329,9 @@ def spare_is_zero(a):
     n, m = a.products, a.bidders
     for i in range(BIDDERS):
         for j in range(PRODUCTS):
-            if (i >= m or j >= n) and any(a.record[i][j].fields()):
+            if (i >= m or j >= n) and not a.record[i][j].is_zero():
                 return False
-            if (i >= m or j >= n or not a.has_filed(i)) and any(a.slot[i][j].fields()):
+            if (i >= m or j >= n or not a.has_filed(i)) and not a.slot[i][j].is_zero():
                 return False
     return a.filed >> m == 0 and not any(a.p[n:] + a.q[n:] + a.mark[n:] + a.free[m:])
 
@@ -279,7 +350,8 @@ def product_stands(a, j):
         return False
     for i in range(a.bidders):
         c = a.record[i][j]
-        if not (p < c.x <= q if c.r > 0 else c.x == 0):
+        # "retained exits above p, at most q"; "ordered as on a card, which standing requires"
+        if not (in_order(c.lots) and between(c.lots, p, q)):
             return False
         if c.g + c.d + c.r > a.cap[j]:
             return False
@@ -287,7 +359,7 @@ def product_stands(a, j):
 
 
 def as_opened(a):
-    nothing = not any(any(c.fields()) for row in a.record for c in row)
+    nothing = all(c.is_zero() for row in a.record for c in row)
     return nothing and a.free == a.initial and a.p == a.start and a.q == a.start
 
 
@@ -341,11 +413,21 @@ def with_bids_open(state):
 
 # ---- The bid card
 
-FIELDS = (8, 8, 17, 3)
+def fields(line):
+    """Of one product on a card: what each field is, its number and its bits."""
+    yield 'tranches', line.b, 8
+    for k, (count, x) in enumerate(line.lots, 1):
+        yield 'lot %d, withdrawn' % k, count, 8
+        yield 'lot %d, exit' % k, x, 17
+    yield 'priority', line.priority, 3
+
+
+def card_bits(n):
+    return 5 + 12 + n * sum(bits for _, _, bits in fields(Line()))
 
 
 def card_length(n):
-    return (17 + 36 * n + 7) // 8
+    return (card_bits(n) + 7) // 8
 
 
 def has_products(n):
@@ -362,14 +444,13 @@ def write_card(n, bidder, round, lines):
     fits('bidder', bidder, 5)
     fits('round', round, 12)
     for j in range(PRODUCTS):
-        for what, v, bits in zip(('tranches', 'withdrawn', 'exit', 'priority'), lines[j].fields(), FIELDS):
+        for what, v, bits in fields(lines[j]):
             fits('{product %d}, ' % j + what, v, bits if j < n else 0)
     value = bidder << 12 | round
     for j in range(n):
-        for v, bits in zip(lines[j].fields(), FIELDS):
+        for _, v, bits in fields(lines[j]):
             value = value << bits | v
-    fill = 8 * card_length(n) - (17 + 36 * n)
-    return (value << fill).to_bytes(card_length(n), 'big')
+    return (value << 8 * card_length(n) - card_bits(n)).to_bytes(card_length(n), 'big')
 
 
 def read_card(n, card):
@@ -384,7 +465,11 @@ def read_card(n, card):
         at += n
         return int(bits[at - n:at], 2)
     bidder, round = take(5), take(12)
-    lines = [Line(*(take(k) for k in FIELDS)) if j < n else Line() for j in range(PRODUCTS)]
+    lines = [Line() for _ in range(PRODUCTS)]
+    for j in range(n):
+        b = take(8)
+        lots = tuple((take(8), take(17)) for _ in range(LOTS))
+        lines[j] = Line(b, lots, take(3))
     if '1' in bits[at:]:
         raise Refused(5, 'the last byte is %02x, and its last %d bits have to be 0' % (card[-1], len(bits) - at))
     return bidder, round, lines
@@ -425,11 +510,11 @@ def judged(a, i, lines):
     if withdrawn != w:
         return 11, '%d withdrawn in all where %d are reduced and %d is switched; exactly %d are allowed' % (withdrawn, sum(R), s, w)
     for j, l in enumerate(bid):
-        if l.withdrawn > 0 and not p[j] < l.exit <= q[j]:
-            return 12, '{product %d}, exit %d where %d is the price and %d the price before; %s' % (
-                j, l.exit, p[j], q[j], allowed(p[j] + 1, q[j]))
-        if l.withdrawn == 0 and l.exit != 0:
-            return 12, '{product %d}, exit %d where nothing is withdrawn; 0 is allowed' % (j, l.exit)
+        fault = lots_fault(l.lots, p[j], q[j])
+        # "Prices strictly rise, used lots come first, unused ones are zero", and each price above p, at most q
+        assert (fault is None) == (in_order(l.lots) and between(l.lots, p[j], q[j]))
+        if fault:
+            return 12, '{product %d}, %s' % (j, fault)
     for j, l in enumerate(bid):
         if l.priority > 0 and (s == 0 or I[j] == 0):
             return 13, '{product %d}, priority %d where nothing is %s; 0 is allowed' % (j, l.priority, 'increased' if s > 0 else 'switched')
@@ -442,6 +527,23 @@ def judged(a, i, lines):
     return None
 
 
+def lots_fault(lots, p, q):
+    """12 of one product: what is wrong with the first lot that is against it; None where none is. Lots are said as 1 to 4."""
+    for k, (count, x) in enumerate(lots):
+        what = 'lot %d, exit %d where ' % (k + 1, x)
+        if count == 0:
+            if x != 0:
+                return what + 'nothing is withdrawn; 0 is allowed'
+        elif k > 0 and lots[k - 1][0] == 0:
+            return 'lot %d where lot %d is unused; used lots come first' % (k + 1, k)
+        elif not p < x <= q:
+            least = lots[k - 1][1] if k > 0 else p
+            return what + '%d is the price and %d the price before; %s' % (p, q, allowed(least + 1, q))
+        elif k > 0 and x <= lots[k - 1][1]:
+            return what + 'lot %d has %d; %s' % (k, lots[k - 1][1], allowed(lots[k - 1][1] + 1, q))
+    return None
+
+
 def default_bid(a, i):
     lines = [Line() for _ in range(PRODUCTS)]
     for j in range(a.products):
@@ -449,7 +551,7 @@ def default_bid(a, i):
         if not a.ticked(j):
             lines[j] = Line(g)
         elif g > 0:
-            lines[j] = Line(0, g, a.q[j])
+            lines[j] = Line(0, four([(g, a.q[j])]))  # "The default bid is one lot at q"
     return lines
 
 
@@ -481,11 +583,12 @@ def calculate(a, draw, overrides={}):
     products = range(n)
     steps = Steps()
     ticked = [a.ticked(j) for j in products]
+    before = [a.kept(j) for j in products]
     bids = [a.slot[i] if a.has_filed(i) else default_bid(a, i) for i in range(m)]
 
-    # 1. Take all bids as accepted.
-    withdrawn = [[bids[i][j].withdrawn for j in products] for i in range(m)]
-    left = [[reduction(a.record[i][j], bids[i][j]) - withdrawn[i][j] for j in products] for i in range(m)]
+    # 1. Take all bids as accepted. Withdrawals not kept: the exit price of each tranche.
+    leaving = [[single(bids[i][j].lots) for j in products] for i in range(m)]
+    left = [[reduction(a.record[i][j], bids[i][j]) - len(leaving[i][j]) for j in products] for i in range(m)]
     more = [[increase(a.record[i][j], bids[i][j]) for j in products] for i in range(m)]
     for i in range(m):
         for j in products:
@@ -498,12 +601,12 @@ def calculate(a, draw, overrides={}):
         if not short:
             break
         j = short[0]
-        some = [i for i in draw if withdrawn[i][j] > 0]
-        if some:
-            i = min(some, key=lambda i: bids[i][j].exit)  # the first of the lowest, and some is in the draw's order
-            withdrawn[i][j] -= 1
-            a.record[i][j].r += 1
-            a.record[i][j].x = bids[i][j].exit
+        # "Keeping takes the lowest price first across all lots"; the first of the lowest, in the draw's order
+        lowest = min((x for i in draw for x in leaving[i][j]), default=None)
+        if lowest is not None:
+            i = [i for i in draw if lowest in leaving[i][j]][0]
+            leaving[i][j].remove(lowest)
+            a.record[i][j].change(lowest, 1)
             steps.did('retained', i, j)
         else:
             i = [i for i in draw if left[i][j] > 0][0]
@@ -535,12 +638,17 @@ def calculate(a, draw, overrides={}):
                 a.free[denied[0]] += 1
                 steps.did('denied outbid', denied[0], j)
             else:
-                i = max((i for i in draw if a.record[i][j].r > 0), key=lambda i: a.record[i][j].x)
-                c = a.record[i][j]
-                c.r -= 1
-                if c.r == 0:
-                    c.x = 0
+                # "outbidding the highest", ties by earliest draw
+                highest = max(x for i in draw for x in a.record[i][j].prices())
+                i = [i for i in draw if highest in a.record[i][j].prices()][0]
+                a.record[i][j].change(highest, -1)
                 steps.did('retained outbid', i, j)
+
+    # "The first equals the kept tranches now on products that had ticked. The second equals the kept tranches that stood before on the
+    # other products, less those deemed bid in step 3, less those still kept there."
+    assert steps.count('retained', 'denied') == sum(a.kept(j) for j in products if ticked[j])
+    assert steps.count('denied outbid', 'retained outbid') == \
+        sum(before[j] - a.kept(j) for j in products if not ticked[j]) - steps.count('deemed')
 
     # 5. Closed, stopped, or the next round.
     a.mark = [0] * PRODUCTS
@@ -653,7 +761,7 @@ def result_price(a, j):
     prices = []
     for row in a.record:
         c = row[j]
-        prices += [a.p[j]] * (c.g > 0) + [a.q[j]] * (c.d > 0) + [c.x] * (c.r > 0)
+        prices += [a.p[j]] * (c.g > 0) + [a.q[j]] * (c.d > 0) + c.prices()
     return max(prices, default=a.p[j])
 
 
@@ -781,7 +889,56 @@ class Reader:
         return out
 
     def lines_to_end(self):
-        return self.groups_to_end(4, 'tranches, withdrawn, exit and priority')
+        """Up to 8 groups, one a product: tranches, lots and priority, or tranches, withdrawn, exit and priority; and where each begins."""
+        out, begins = [], []
+
+        def number():
+            if self.at_end():
+                raise Wrong('a product has tranches, lots and priority; one is missing', self.at())
+            return self.number()
+        while not self.at_end():
+            if len(out) == PRODUCTS:
+                self.done()
+            begins.append(self.at())
+            b = number()
+            if self.at_end() or self.is_number():
+                lots = four([(number(), number())])
+            else:
+                lots = self.lots()
+            out.append(Line(pair(b), tuple((pair(count), x) for count, x in lots), byte(number())))
+        return out, begins
+
+    def lots(self):
+        """The lots that the next word has."""
+        at, word = self.at(), self.word()
+        if word == b'-':
+            return NONE
+        out = []
+        for lot in word.split(b','):
+            if len(out) == LOTS:
+                raise Wrong('a product has at most four lots', at)
+            if not lot:
+                raise Wrong('a lot is missing', at)
+            parts = lot.split(b'@')
+            if len(parts) == 1:
+                raise Wrong('lots are COUNT@PRICE joined by commas, or -', at)
+            if len(parts) > 2:
+                raise Wrong('a lot has one @', at + len(parts[0]) + 1 + len(parts[1]))
+            for part in parts:
+                if not part:
+                    raise Wrong('a lot has a count and a price; a number is missing', at)
+                if not re.fullmatch(rb'[0-9]+', part):
+                    raise Wrong('not a number', at)
+                if int(part) > 4294967295:
+                    raise Wrong('a number above 4294967295', at)
+                at += len(part) + 1
+            out.append(tuple(map(int, parts)))
+        return four(out)
+
+    def as_many_lines(self, begins, most, what):
+        """`most` groups, of which each begins there."""
+        if len(begins) != most:
+            raise Wrong(what, (begins + [self.length])[min(len(begins), most)])
 
     def as_many(self, numbers, first, most, what):
         """`most` numbers, of which the first is the word `first` of the line."""
@@ -816,8 +973,7 @@ class Reader:
             raise Wrong('nothing more belongs here', self.at())
 
 
-def groups(numbers):
-    lines = [Line(pair(b), pair(w), x, byte(k)) for b, w, x, k in zip(*(numbers[k::4] for k in range(4)))]
+def eight(lines):
     return lines + [Line()] * (PRODUCTS - len(lines))
 
 
@@ -864,7 +1020,26 @@ def in_use(a, kind):
 # ---- What is said of a bid, a product and a report
 
 def card_fields(lines):
-    return ''.join(' %d %d %d %d' % l.fields() for l in lines)
+    return ''.join(' %d %s %d' % (l.b, as_text(l.lots), l.priority) for l in lines)
+
+
+def lots_in_words(lots, what, of=None):
+    """Each used lot at its price; where it is a part of the lot of that price in `of`, of how many."""
+    out = []
+    for count, x in used(lots):
+        whole = sum(n for n, price in of or () if price == x)
+        part = ' of %d' % whole if count < whole else ''
+        out.append('%d%s%s at %d' % (count, part, '' if out else what, x))
+    return ', '.join(out)
+
+
+def priced_lots(a, lots, what, of=None):
+    return '%s = %s' % (lots_in_words(lots, what, of), a.people(*(x for _, x in used(lots))))
+
+
+def moved_lots(a, lots, what, of):
+    """What a round did, with the price in words where it is one: an answer has such a line for every bidder and product."""
+    return (priced_lots(a, lots, what, of) if len(used(lots)) == 1 else lots_in_words(lots, what, of))
 
 
 def bid_in_words(a, i, lines):
@@ -882,7 +1057,7 @@ def bid_in_words(a, i, lines):
         elif l.b < g:
             said += ', down from %d' % g
             if l.withdrawn > 0:
-                said += ', %d withdrawn at %s' % (l.withdrawn, a.price(l.exit))
+                said += ', ' + priced_lots(a, l.lots, ' withdrawn')
             if g - l.b > l.withdrawn:
                 said += ', %d switched' % (g - l.b - l.withdrawn)
         elif g > 0:
@@ -944,8 +1119,8 @@ def report_in_words(a, i):
            '  prices in ' + a.units()]
     own = a.record[i][:a.products]
     for j, c in enumerate(own):
-        out.append('  {product %d} price %d going %d denied %d retained %d exit %d%s' % ((j, a.p[j]) + c.fields() + (overridden(a, j),)))
-        out.append('    ' + a.people(a.p[j]) + ('; retained at ' + a.people(c.x) if c.r > 0 else ''))
+        out.append('  {product %d} price %d going %d denied %d retained %s%s' % (j, a.p[j], c.g, c.d, as_text(c.lots), overridden(a, j)))
+        out.append('    ' + a.people(a.p[j]) + ('; retained at ' + a.people(*c.prices()) if c.r > 0 else ''))
     g, d, r = sum(c.g for c in own), sum(c.d for c in own), sum(c.r for c in own)
     return out + ['  in all going %d denied %d retained %d, held %d' % (g, d, r, g + d + r)]
 
@@ -1136,11 +1311,10 @@ class Desk:
 
     def bid(self, r):
         bidder = byte(r.number())
-        first = r.next
-        numbers = r.lines_to_end()
+        lines, begins = r.lines_to_end()
         a = with_bids_open(self.state)
-        r.as_many(numbers, first, 4 * a.products, 'a bid in this auction has four numbers for each of %d products' % a.products)
-        card = write_card(a.products, bidder, a.round, groups(numbers))
+        r.as_many_lines(begins, a.products, 'a bid in this auction has tranches, lots and priority for each of %d products' % a.products)
+        card = write_card(a.products, bidder, a.round, eight(lines))
         return ['ok ' + card.hex()] + self.file_card(card)
 
     def count(self, r):
@@ -1176,22 +1350,32 @@ class Desk:
             if fault:
                 raise Refused(number, fault)
         then, missing, round = list(a.p), a.still_to_file(), a.round
+        bids = [a.slot[i] if a.has_filed(i) else default_bid(a, i) for i in range(a.bidders)]
+        stood = [[c.lots for c in row] for row in a.record]
         steps = calculate(a, draw, overrides)
         self.keep(store(a), self.state)
         kept, outbid = steps.count('retained', 'denied'), steps.count('denied outbid', 'retained outbid')
         out = ['ok kept %d outbid %d' % (kept, outbid), '  round %d calculated; default bids: %s' % (round, listed(missing) or 'none')]
         out += products_in_words(a, then) + unused_in_words(a, overrides)
         for i, j, kind, many in steps.in_order():
-            said = {
-                'retained': lambda: 'retained at ' + a.price(a.record[i][j].x),
-                # "d denied switches at the price q before its latest fall"
-                'denied': lambda: 'denied, held at ' + a.price(a.q[j]),
-                'cancelled': lambda: 'of the increase cancelled',
-                'deemed': lambda: 'deemed bid at ' + a.price(then[j]),
-                'denied outbid': lambda: 'denied outbid, free again',
-                'retained outbid': lambda: 'retained outbid, gone',
-            }[kind]()
-            out.append('  {bidder %d} on {product %d}: %d %s' % (i, j, many, said))
+            now = a.record[i][j].lots
+            if kind == 'retained':  # nothing was before, since the product had ticked
+                assert many == total(now)
+                said = moved_lots(a, now, ' retained', bids[i][j].lots)
+            elif kind == 'retained outbid':
+                left = {x: count for count, x in used(now)}
+                gone = [(count - left.get(x, 0), x) for count, x in used(stood[i][j])]
+                assert many == total(gone)
+                said = moved_lots(a, gone, ' retained outbid, gone,', stood[i][j])
+            else:
+                said = '%d %s' % (many, {
+                    # "d denied switches at the price q before its latest fall"
+                    'denied': 'denied, held at ' + a.price(a.q[j]),
+                    'cancelled': 'of the increase cancelled',
+                    'deemed': 'deemed bid at ' + a.price(then[j]),
+                    'denied outbid': 'denied outbid, free again',
+                }[kind])
+            out.append('  {bidder %d} on {product %d}: %s' % (i, j, said))
         return out + end_in_words(a)
 
     def cutback(self, r):
@@ -1259,9 +1443,9 @@ class Desk:
                        % (j, a.target[j], a.cap[j], a.start[j], a.p[j], a.q[j], a.held(j), overridden(a, j)))
         for k in range(a.rows):
             out.append('  row %d percent %d decrement %d' % (k, a.percent[k], a.decrement[k]))
-        out.append('  records G D R X: going, denied, retained at exit X; cards T W X P: tranches, withdrawn at exit X, priority')
+        out.append('  records G D LOTS: going, denied, retained; cards T LOTS P: tranches, withdrawn, priority; LOTS: COUNT@EXIT,.. or -')
         for i in range(a.bidders):
-            own = ''.join(' %d %d %d %d' % c.fields() for c in a.record[i][:a.products])
+            own = ''.join(' %d %d %s' % (c.g, c.d, as_text(c.lots)) for c in a.record[i][:a.products])
             out.append('  {bidder %d} eligibility %d free %d filed %d%s'
                        % (i, a.initial[i], a.free[i], a.has_filed(i), own))
             if a.has_filed(i):
@@ -1352,15 +1536,15 @@ class Desk:
         bidder, round, lines = read_card(n, card)
         out = ['ok %d %d%s' % (bidder, round, card_fields(lines[:n])), '  bidder %d, round %d' % (bidder, round)]
         for j, l in enumerate(lines[:n]):
-            withdrawn = ', %d withdrawn at %d' % (l.withdrawn, l.exit) if l.withdrawn > 0 else ''
+            withdrawn = ', ' + lots_in_words(l.lots, ' withdrawn') if l.withdrawn > 0 else ''
             priority = ', priority %d' % l.priority if l.priority > 0 else ''
             out.append('  product %d: %d bid%s%s' % (j, l.b, withdrawn, priority))
         return out
 
     def write(self, r):
         n, bidder, round = r.number(), byte(r.number()), pair(r.number())
-        numbers = r.lines_to_end()
-        return ['ok ' + write_card(n, bidder, round, groups(numbers)).hex()]
+        lines, _ = r.lines_to_end()
+        return ['ok ' + write_card(n, bidder, round, eight(lines)).hex()]
 
     def help(self, r):
         """The first line only."""
@@ -1381,7 +1565,7 @@ COMMANDS = {
 }
 
 # what there is help for beside the commands
-TOPICS = (b'round', b'example', b'units', b'letters', b'refusals')
+TOPICS = (b'round', b'example', b'lots', b'units', b'letters', b'refusals')
 
 
 def encoded(said):

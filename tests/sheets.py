@@ -39,6 +39,10 @@ def told(name, wrong):
 
 # ---- A calculation told step by step: document 01 once more, so that nothing is guessed from the states before and after it
 
+def count_of(lots):
+    return sum(count for count, _ in lots)
+
+
 def calculated(a, draw):
     """Calculates as the model does, and gives what each step did: (bidder, product, what) with a count, and the bids."""
     n, m = a.products, a.bidders
@@ -48,24 +52,33 @@ def calculated(a, draw):
 
     def note(i, j, what, count=1):
         done[i, j, what] = done.get((i, j, what), 0) + count
-    withdrawn = [[bids[i][j].withdrawn for j in range(n)] for i in range(m)]
-    left = [[max(0, a.record[i][j].g - bids[i][j].b) - withdrawn[i][j] for j in range(n)] for i in range(m)]
+    # by places: the k-th lot of a card is retained in the k-th lot of the record, each lot a count and a price
+    leaving = [[[list(lot) for lot in bids[i][j].lots] for j in range(n)] for i in range(m)]
+    left = [[max(0, a.record[i][j].g - bids[i][j].b) - count_of(leaving[i][j]) for j in range(n)] for i in range(m)]
     more = [[max(0, bids[i][j].b - a.record[i][j].g) for j in range(n)] for i in range(m)]
-    holds = [[[bids[i][j].b, a.record[i][j].d, a.record[i][j].r, a.record[i][j].x] for j in range(n)] for i in range(m)]
+    holds = [[[bids[i][j].b, a.record[i][j].d, [list(lot) for lot in a.record[i][j].lots]] for j in range(n)] for i in range(m)]
 
     def held(j):
-        return sum(sum(holds[i][j][:3]) for i in range(m))
+        return sum(holds[i][j][0] + holds[i][j][1] + count_of(holds[i][j][2]) for i in range(m))
+
+    def first(lots):
+        return next(k for k in range(model.LOTS) if lots[k][0])
+
+    def last(lots):
+        return max(k for k in range(model.LOTS) if lots[k][0])
     while True:
         short = [j for j in range(n) if ticked[j] and held(j) < a.target[j]]
         if not short:
             break
         j = short[0]
-        out = [i for i in draw if withdrawn[i][j]]
+        out = [i for i in draw if count_of(leaving[i][j])]
         if out:
-            i = min(out, key=lambda i: (bids[i][j].exit, draw.index(i)))
-            withdrawn[i][j] -= 1
-            holds[i][j][2] += 1
-            holds[i][j][3] = bids[i][j].exit
+            i = min(out, key=lambda i: (leaving[i][j][first(leaving[i][j])][1], draw.index(i)))
+            lot = leaving[i][j][first(leaving[i][j])]
+            into = holds[i][j][2][first(leaving[i][j])]
+            lot[0] -= 1
+            into[0] += 1
+            into[1] = lot[1]
             note(i, j, 'retained')
         else:
             i = next(i for i in draw if left[i][j])
@@ -86,13 +99,14 @@ def calculated(a, draw):
                 holds[i][j][1] = 0
         while held(j) > a.target[j]:
             switches = [i for i in draw if holds[i][j][1]]
-            kept = [i for i in draw if holds[i][j][2]]
+            kept = [i for i in draw if count_of(holds[i][j][2])]
             if switches:
                 holds[switches[0]][j][1] -= 1
                 note(switches[0], j, 'freed')
             elif kept:
-                i = max(kept, key=lambda i: (holds[i][j][3], -draw.index(i)))
-                holds[i][j][2] -= 1
+                i = max(kept, key=lambda i: (holds[i][j][2][last(holds[i][j][2])][1], -draw.index(i)))
+                lot = holds[i][j][2][last(holds[i][j][2])]
+                lot[:] = [lot[0] - 1, lot[1]] if lot[0] > 1 else [0, 0]
                 note(i, j, 'gone')
             else:
                 break
@@ -104,12 +118,12 @@ class Round:
     def __init__(self, a, draw, overrides):
         self.number, self.p, self.mark, self.target = a.round, list(a.p), list(a.mark), list(a.target)
         self.defaults = [i for i in range(a.bidders) if not a.has_filed(i)]
+        self.stood = [[c.lots for c in row] for row in a.record]
         self.done, self.bids, self.holds = calculated(a, draw)
         steps = model.calculate(a, draw, overrides)
         self.counts = steps.count('retained', 'denied'), steps.count('denied outbid', 'retained outbid')
         n, m = a.products, a.bidders
-        assert [[[a.record[i][j].g, a.record[i][j].d, a.record[i][j].r] for j in range(n)] for i in range(m)] == \
-            [[h[:3] for h in row] for row in self.holds]
+        assert [[[c.g, c.d, list(map(list, c.lots))] for c in a.record[i][:n]] for i in range(m)] == self.holds
         self.held = [a.held(j) for j in range(n)]
         self.excess = a.excess()
         self.q = list(a.q)
@@ -147,14 +161,15 @@ class Made:
 
     def bid(self, i, fields):
         a = self.auction()
-        lines = model.groups(sum(fields, []))
+        lines = model.eight([model.Line(b, model.four(lots), priority) for b, lots, priority in fields])
         if model.judged(a, i, lines):
             return False
         a.slot[i] = lines
         a.filed |= 1 << i
         if model.store(a) != self.state:
             card = model.write_card(a.products, i, a.round, lines)
-            self.line('ok ' + card.hex(), against.bid_line(i, fields), model.store(a))
+            self.line('ok ' + card.hex(), 'bid %d' % i + ''.join(
+                '  %d %s %d' % (l.b, model.as_text(l.lots), l.priority) for l in lines[:a.products]), model.store(a))
         return True
 
     def calculate(self, draw, overrides={}):
@@ -224,13 +239,14 @@ def overrides_of(rnd, a):
 def bid_round(rnd, made, absent=.1, still=0):
     """Cards of a round: some bidders send none, and some bid as before."""
     a = made.auction()
+    mood = against.mood_of(rnd, a)
     for i in range(a.bidders):
         if rnd.random() < absent:
             continue
         if a.round > 1 and rnd.random() < still:
-            made.bid(i, [[c.g, 0, 0, 0] for c in a.record[i][:a.products]])
+            made.bid(i, [[c.g, [], 0] for c in a.record[i][:a.products]])
         else:
-            made.bid(i, against.good_bid(rnd, a, i))
+            made.bid(i, against.good_bid(rnd, a, i, mood))
 
 
 def random_auction(rnd, path):
@@ -416,18 +432,25 @@ def compared(made, raw, names={}):
                                      'outbid': str(r.counts[1]), 'excess': str(r.excess)}, sums)
         same('round %d, default bids' % r.number, [(str(i), named('bidder', i)) for i in r.defaults],
              [(e.get('data-default'), text(e)) for e in section.iter('span') if e.get('data-default')])
-        got = {}
+        got = []
         for p in section.findall('p[@data-bidder]'):
             same('round %d, name of a bidder' % r.number, 'bidder ' + named('bidder', int(p.get('data-bidder'))), text(p[0]))
             for e in p.findall('span'):
                 price = e.find('i')
                 key = int(p.get('data-bidder')), int(e.get('data-product')), e.get('data-what')
-                got[key] = int(text(e.find('b'))), price is not None and (int(price.get('data-price')), text(price))
+                whole = re.match(r'[0-9]+ of ([0-9]+) (?:retained|bid)', text(e))
+                got.append(key + (int(text(e.find('b'))), int(whole.group(1)) if whole else 0,
+                                  price is not None and (int(price.get('data-price')), text(price))))
 
-        def at(i, j, what):
-            amount = {'retained': r.holds[i][j][3], 'denied': r.q[j], 'deemed': r.p[j]}.get(what)
-            return amount is not None and (amount, said(unit, amount))
-        same('round %d, bidders' % r.number, {key: (count, at(*key)) for key, count in r.done.items()}, got)
+        def each(i, j, what, count):
+            """Of retained and outbid lots each is told by itself, and of how many it is a part."""
+            if what in ('retained', 'gone'):
+                now, of = r.holds[i][j][2], r.bids[i][j].lots if what == 'retained' else r.stood[i][j]
+                many = [lot[0] if what == 'retained' else whole[0] - lot[0] for lot, whole in zip(now, of)]
+                return [(n, whole if n < whole else 0, (x, said(unit, x))) for n, (whole, x) in zip(many, of) if n]
+            amount = {'denied': r.q[j], 'deemed': r.p[j]}.get(what)
+            return [(count, 0, amount is not None and (amount, said(unit, amount)))]
+        same('round %d, bidders' % r.number, sorted(key + told for key, count in r.done.items() for told in each(*key, count)), sorted(got))
     # a cutback
     cuts = page.all('.//section[@data-cutback]')
     cut = made.cut if made.cut is not None and rounds and a.round >= 2 else None
@@ -451,7 +474,7 @@ def compared(made, raw, names={}):
         final = [model.result_price(a, j) for j in range(n)]
         same('final prices', list(map(str, final)), [text(e) for e in page.all(part + 'td', what='price')])
         same('final prices as said', [said(unit, p) for p in final], [text(e) for e in page.all(part + 'td', what='said')])
-        awards = [[sum(a.record[i][j].fields()[:3]) for j in range(n)] for i in range(m)]
+        awards = [[a.record[i][j].g + a.record[i][j].d + a.record[i][j].r for j in range(n)] for i in range(m)]
         for i in range(m):
             row = page.one(part + 'tr', bidder=i)
             same('awards of bidder %d' % i, list(map(str, awards[i] + [sum(awards[i])])), [text(e) for e in row if e.tag == 'td'])
@@ -493,13 +516,32 @@ def largest(rnd, path, rounds):
     return made
 
 
+def in_lots(path):
+    """Two bidders' lots are retained in round 2, of one bidder a lot and a part of the next; what comes in from the second product outbids
+    the highest: one in round 3, three in round 4, across both bidders and two lots of the one."""
+    made = Made(path)
+    assert made.open('open kwh 10 product 6 6 1000  4 4 1000 bidder 6 5 6 4 row 0 500')
+    leaves = [(2, 960), (2, 970), (1, 980), (1, 1000)]
+    for draw, bids in (
+            # of each bidder tranches of the first product, its lots, its priority, and tranches of the second
+            ([0, 1, 2, 3], [(6, [], 0, 0), (3, [], 0, 1), (0, [], 0, 4), (0, [], 0, 4)]),
+            ([3, 2, 1, 0], [(0, leaves, 0, 0), (1, [(2, 970)], 0, 1), (0, [], 0, 4), (0, [], 0, 4)]),
+            ([0, 1, 2, 3], [(0, [], 0, 0), (1, [], 0, 1), (1, [], 1, 3), (0, [], 0, 4)]),
+            ([3, 0, 2, 1], [(0, [], 0, 0), (1, [], 0, 1), (1, [], 0, 3), (3, [], 1, 1)])):
+        for i, (b, lots, priority, second) in enumerate(bids):
+            assert made.bid(i, [[b, lots, priority], [second, [], 0]])
+        made.calculate(draw)
+    made.write()
+    return made
+
+
 def setting_t(path, third):
     """Document 01's setting T to its third round, of which the bids are given."""
     made = Made(path)
     assert made.open('open kwh 4 product 2 2 1000  2 2 1000 bidder 3 3 3 row 0 100  50 300')
     for bids in ([[(2, 0), (0, 0)], [(1, 0), (1, 0)], [(0, 0), (2, 0)]], [[(0, 0), (2, 1)], [(1, 0), (1, 0)], [(0, 0), (2, 0)]], third):
         for i, bid in enumerate(bids):
-            assert made.bid(i, [[b, 0, 0, priority] for b, priority in bid])
+            assert made.bid(i, [[b, [], priority] for b, priority in bid])
         made.calculate([0, 1, 2])
     made.write()
     return made
@@ -514,12 +556,12 @@ def long_auction(path, rounds):
         a = made.auction()
         for i in range(3):
             if a.round == 1:
-                made.bid(i, [[2, 0, 0, 0], [1 if i else 0, 0, 0, 0]])
+                made.bid(i, [[2, [], 0], [1 if i else 0, [], 0]])
             else:
-                made.bid(i, [[a.record[i][j].g, 0, 0, 0] for j in range(2)])
+                made.bid(i, [[a.record[i][j].g, [], 0] for j in range(2)])
         if a.round == rounds - 5:
-            made.bid(0, [[0, 2, a.q[0], 0], [0, 0, 0, 0]])
-            made.bid(1, [[0, 2, a.p[0] + 1, 0], [1, 0, 0, 0]])
+            made.bid(0, [[0, [(1, a.p[0] + 1), (1, a.q[0])], 0], [0, [], 0]])
+            made.bid(1, [[0, [(2, a.p[0] + 1)], 0], [1, [], 0]])
         made.calculate(draw_of(rnd, a))
     made.write()
     return made
@@ -556,6 +598,12 @@ def main():
         told('setting T, %s: as document 01 has it' % name,
              [] if (list(made.rounds[3].done), made.auction().p[:2]) == ([want[0]], want[1]) else [made.rounds[3].done, made.auction().p[:2]])
         page_told('setting T, %s: its page' % name, made)
+
+    made = in_lots(os.path.join(folder, 'lots'))
+    retained = [[model.as_text(tuple(map(tuple, row[0][2]))) for row in made.rounds[r].holds[:2]] for r in (2, 3, 4)]
+    told('lots: retained, the lowest first, and outbid, the highest first',
+         [] if retained == [['2@960,1@970', '2@970'], ['2@960', '2@970'], ['1@960', '-']] else retained)
+    page_told('lots: its page', made)
 
     made = largest(random.Random(3), os.path.join(folder, 'largest'), 22)
     page_told('8 products, 32 bidders, %d rounds' % len(made.calculated()), made)

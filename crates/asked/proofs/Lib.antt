@@ -1,2 +1,4 @@
 pub mod Typing
 pub mod Overrides
+pub mod LotText
+pub mod Grouping

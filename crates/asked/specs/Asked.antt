@@ -4,12 +4,10 @@ use mathlib.Core.List.{List}
 use Prim.Native.Nat.{ℕ, _+_, _*_}
 use lib.ListN.{getD}
 use lib.Dec.{ltb}
-use Rattle.rules.specs.declared.Line.{Line}
 use Rattle.rules.specs.declared.Product.{Product}
 use Rattle.rules.specs.declared.Row.{Row}
 use Rattle.rules.specs.declared.Settings.{Settings}
 use Rattle.rules.specs.declared.Tranches.{Tranches}
-use Rattle.rules.specs.Card.{line}
 use Rattle.rules.specs.Count.{listOf}
 use Rattle.rules.specs.Parts.{row}
 use Rattle.rules.specs.Units.{tranches, unitNumber, priceOf}
@@ -59,12 +57,6 @@ settingsAsked n products bidders rows =
       eligibility = listOf (bidderAsked bidders) 32;
       row = listOf (rowAt rows) 8;
     }
-
--- ---- a bid
-
-abbrev pub lineAskedAt : List ℕ → ℕ → Line
-lineAskedAt ns p =
-    line (pairOf (typed ns (p * 4))) (pairOf (typed ns (p * 4 + 1))) (typed ns (p * 4 + 2)) (byteOf (typed ns (p * 4 + 3)))
 
 -- ---- a cutback
 

@@ -2,13 +2,14 @@
 // answer, with its column, and the length of that is handed back.
 mod bidding;
 mod cutting;
+mod lots;
 mod numbers;
 mod opening;
 mod overriding;
 
+pub use bidding::Bid;
 pub use bidding::card;
 pub use bidding::groups;
-pub use bidding::lines_of;
 pub use bidding::other_groups;
 pub use cutting::Revised;
 pub use cutting::other_pairs;

@@ -15,11 +15,12 @@ use Rattle.rules.specs.declared.Line.{Line}
 use Rattle.rules.specs.declared.Record.{Record}
 use Rattle.rules.specs.Count.{allUpTo}
 use Rattle.rules.specs.Settings.{between, setup, capOf}
+use Rattle.rules.specs.Lots.{exitsFit}
 use Rattle.rules.specs.Held.{goingIn, deniedIn, retainedIn, ticked, freeOf}
-use Rattle.rules.specs.Bid.{bidIn, withdrawnIn, exitOn, oneIf, reduction, increase, recordOf, onProduct, priceAt, beforeAt, judged}
+use Rattle.rules.specs.Bid.{bidIn, withdrawnIn, oneIf, reduction, increase, recordOf, onProduct, priceAt, beforeAt, judged}
 use Rattle.rules.proofs.Lists.{all-ext}
 use Rattle.rules.proofs.Tests.{said, is-eqb}
-use Rattle.held.proofs.Found.{either, or-is}
+use Rattle.held.proofs.Found.{or-is}
 use Rattle.bids.specs.declared.line.Kept.{Kept}
 use Rattle.bids.specs.Lines.{isIncreased, keptFirst, keptWith, numberOf}
 use Rattle.bids.specs.declared.Sums.{Sums}
@@ -72,9 +73,7 @@ module _ {m : ℕ} {r : ℕ → Record} {l : ℕ → Line} where
         caps = ap (λ t. t && leb (bidIn (l m) + deniedIn (r m) + retainedIn (r m)) (capOf (setup a) m)) (s .caps);
         ticks = ap₂ _&&_ (s .ticks) (or-is {t = ticked a m} {u = eqb (reduction (r m) (l m)) 0} refl refl);
         leaves = ap (λ t. t && leb (withdrawnIn (l m)) (reduction (r m) (l m))) (s .leaves);
-        exits = ap₂ _&&_ (s .exits)
-            (either (ltb 0 (withdrawnIn (l m))) (ltb (priceAt a m) (exitOn (l m)) && leb (exitOn (l m)) (beforeAt a m))
-            (eqb (exitOn (l m)) 0));
+        exits = ap (λ t. t && exitsFit (priceAt a m) (beforeAt a m) (l m .withdrawn)) (s .exits);
         others = ap₂ _&&_ (s .others) (or-is {t = isIncreased (r m) (l m)} {u = eqb (l m .priority) 0} refl refl);
         plain = ap (λ t. t && eqb (l m .priority) 0) (s .plain);
       })

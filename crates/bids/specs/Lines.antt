@@ -1,11 +1,12 @@
 -- The rules of a bid as tests of one product, with the record r and the line l of a bidder there. Assumes nothing.
-use mathlib.Core.Bool.{Bool, true, _&&_, _||_, not, cond}
+use mathlib.Core.Bool.{Bool, true, _&&_, _||_, cond}
 use Prim.Native.Nat.{ℕ, _+_}
 use lib.Dec.{leb, ltb, eqb}
 use Rattle.rules.specs.declared.Line.{Line}
 use Rattle.rules.specs.declared.Record.{Record}
+use Rattle.rules.specs.Lots.{exitsFit}
 use Rattle.rules.specs.Held.{deniedIn, retainedIn}
-use Rattle.rules.specs.Bid.{bidIn, withdrawnIn, exitOn, reduction, increase}
+use Rattle.rules.specs.Bid.{bidIn, withdrawnIn, reduction, increase}
 use Rattle.bids.specs.declared.line.Kept.{Kept}
 
 abbrev pub isIncreased : Record → Line → Bool
@@ -21,8 +22,7 @@ keptWith t r l cap tick p q = record {
   caps = t .caps && leb (bidIn l + deniedIn r + retainedIn r) cap;
   ticks = t .ticks && (tick || eqb (reduction r l) 0);
   leaves = t .leaves && leb (withdrawnIn l) (reduction r l);
-  exits = t .exits
-      && ((ltb 0 (withdrawnIn l) && (ltb p (exitOn l) && leb (exitOn l) q)) || (not (ltb 0 (withdrawnIn l)) && eqb (exitOn l) 0));
+  exits = t .exits && exitsFit p q (l .withdrawn);
   others = t .others && (isIncreased r l || eqb (l .priority) 0);
   plain = t .plain && eqb (l .priority) 0;
 }

@@ -1,18 +1,19 @@
 -- What the lines of a bid come to over the first m products: the sums of "Rules of a bid", and whether each product keeps each rule.
 -- Assumes nothing.
 use mathlib.Core.Path.{_≡_}
-use mathlib.Core.Bool.{Bool, true, _&&_, cond}
+use mathlib.Core.Bool.{Bool, true, cond}
 use mathlib.Core.List.{List}
 use Prim.Native.Nat.{ℕ, _+_, _*_, _≤_, _<_}
 use lib.ListN.{length, getD}
-use lib.Dec.{leb, ltb, eqb}
+use lib.Dec.{leb, eqb}
 use Rattle.rules.specs.declared.Auction.{Auction}
 use Rattle.rules.specs.declared.Line.{Line}
 use Rattle.rules.specs.declared.Record.{Record}
 use Rattle.rules.specs.Count.{sumUpTo, allUpTo}
 use Rattle.rules.specs.Settings.{setup, capOf}
+use Rattle.rules.specs.Lots.{exitsFit}
 use Rattle.rules.specs.Held.{goingIn, deniedIn, retainedIn, ticked}
-use Rattle.rules.specs.Bid.{bidIn, withdrawnIn, exitOn, oneIf, reduction, increase, reductions, increases, numbered, recordOf, onProduct, priceAt, beforeAt}
+use Rattle.rules.specs.Bid.{bidIn, withdrawnIn, oneIf, reduction, increase, reductions, increases, numbered, recordOf, onProduct, priceAt, beforeAt}
 use Rattle.rules.specs.Layout.{loaded}
 use Rattle.book.specs.Lent.{Lent}
 use Rattle.held.specs.Ticks.{Ticks}
@@ -43,13 +44,13 @@ summed t r l = record {
   rising = t .rising + oneIf (isIncreased r l);
 }
 
--- no sum is above 65,535 a product
+-- no sum is above 65,535 a product, or four times that of its lots
 pub record Small (m : ℕ) (t : Sums) : Type 0 where
   pub going : t .going ≤ 65535 * m
   pub bid : t .bid ≤ 65535 * m
   pub reduced : t .reduced ≤ 65535 * m
   pub increased : t .increased ≤ 65535 * m
-  pub withdrawn : t .withdrawn ≤ 65535 * m
+  pub withdrawn : t .withdrawn ≤ 262140 * m
   pub rising : t .rising ≤ m
 
 pub record Summed (m : ℕ) (r : ℕ → Record) (l : ℕ → Line) (t : Sums) : Type 0 where
@@ -64,8 +65,7 @@ pub record KeptIn (m : ℕ) (a : Auction) (r : ℕ → Record) (l : ℕ → Line
   pub caps : t .caps ≡ allUpTo (λ p. leb (bidIn (l p) + deniedIn (r p) + retainedIn (r p)) (capOf (setup a) p)) m
   pub ticks : t .ticks ≡ allUpTo (λ p. cond (ticked a p) true (eqb (reduction (r p) (l p)) 0)) m
   pub leaves : t .leaves ≡ allUpTo (λ p. leb (withdrawnIn (l p)) (reduction (r p) (l p))) m
-  pub exits : t .exits ≡ allUpTo (λ p.
-      cond (ltb 0 (withdrawnIn (l p))) (ltb (priceAt a p) (exitOn (l p)) && leb (exitOn (l p)) (beforeAt a p)) (eqb (exitOn (l p)) 0)) m
+  pub exits : t .exits ≡ allUpTo (λ p. exitsFit (priceAt a p) (beforeAt a p) (l p .withdrawn)) m
   pub others : t .others ≡ allUpTo (λ p. cond (isIncreased (r p) (l p)) true (eqb (l p .priority) 0)) m
   pub plain : t .plain ≡ allUpTo (λ p. eqb (l p .priority) 0) m
 

@@ -1,5 +1,5 @@
 // "Rules of a bid" of document 01: a bid is judged by numbers 8 to 13, each over all products before the next.
-// Every sum is of u16 fields, at most 8 of them, and is taken in a u32 whatever the state and the card hold.
+// Every sum is of u16 fields, at most 32 of them, and is taken in a u32 whatever the state and the card hold.
 mod line;
 
 pub use line::Kept;
@@ -38,12 +38,13 @@ impl Sums {
         ensures { λ x. ⌜ (x ≡ summed self r l) × ((m : ℕ) → Small m self → Small (m + 1) x) ⌝ }
     {
         let increase = line::increase(r, l);
+        let withdrawn = l.withdrawn.total();
         Sums {
             going: self.going + r.going.0 as u32,
             bid: self.bid + l.tranches.0 as u32,
             reduced: self.reduced + line::reduction(r, l),
             increased: self.increased + increase,
-            withdrawn: self.withdrawn + l.withdrawn.count.0 as u32,
+            withdrawn: self.withdrawn + withdrawn,
             rising: self.rising + (increase > 0) as u32,
         }
     }
@@ -84,17 +85,14 @@ pub fn tally_of(s: &[u8], ticks: &[u8; 8], b: usize, lines: [Line; 8]) -> Tally
     let mut kept = Kept::at_first();
     let mut p: usize = 0;
     while p < m {
+        let cap = book::cap(s, p);
+        let tick = ticks[p] == 1;
+        let price = book::price(s, p);
+        let before = book::before(s, p);
         let r = book::record(s, b * 8 + p);
         let l = lines[p];
         sums = sums.with(r, l);
-        kept = kept.with(
-            r,
-            l,
-            book::cap(s, p),
-            ticks[p] == 1,
-            book::price(s, p),
-            book::before(s, p),
-        );
+        kept = kept.with(r, l, cap, tick, price, before);
         p += 1;
     }
     Tally { sums, kept }

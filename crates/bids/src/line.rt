@@ -10,7 +10,7 @@ ghost use Rattle.rules.specs.Bid.{reduction, increase, defaultLine};
 ghost use Rattle.bids.specs.Lines.{keptFirst, keptWith, numberOf};
 use rules::Limits;
 use rules::Line;
-use rules::Lot;
+use rules::Lots;
 use rules::Price;
 use rules::Record;
 use rules::Tranches;
@@ -39,7 +39,7 @@ pub fn increase(r: Record, l: Line) -> u32
     less(l.tranches.0 as u32, r.going.0 as u32)
 }
 
-// 12: what an exit price may be, p < x <= q; nothing where no price is above p.
+// 12: what the exit price of a used lot may be, p < x <= q; nothing where no price is above p.
 pub fn exit_limits(p: Price, q: Price) -> Limits
     ensures { λ r. ⌜ ((x : ℕ) → x < 4294967296 → allows r x ≡ (ltb (amountOf p) x && leb x (amountOf q))) ⌝ }
 {
@@ -60,9 +60,9 @@ pub struct Kept {
     pub caps: bool,
     // 9: no reduction on a product that didn't tick.
     pub ticks: bool,
-    // 11: withdrawn is not above R.
+    // 11: the sum of the lots withdrawn is not above R.
     pub leaves: bool,
-    // 12: p < exit <= q where something is withdrawn, and exit 0 where nothing is.
+    // 12: each price, the order and the zero lots.
     pub exits: bool,
     // 13: a product that is not increased is numbered 0.
     pub others: bool,
@@ -91,16 +91,14 @@ impl Kept {
     {
         let reduced = reduction(r, l);
         let rises = increase(r, l) > 0;
-        let leaves = l.withdrawn.count.0 > 0;
-        let exit = l.withdrawn.exit;
-        let within = exit_limits(p, q).holds(exit);
+        let withdrawn = l.withdrawn.total();
+        let fit = l.withdrawn.exits_fit(p.amount(), q.amount());
+        let retained = r.retained.total();
         Kept {
-            caps: self.caps
-                & (l.tranches.0 as u32 + r.denied.0 as u32 + r.retained.count.0 as u32
-                    <= cap.0 as u32),
+            caps: self.caps & (l.tranches.0 as u32 + r.denied.0 as u32 + retained <= cap.0 as u32),
             ticks: self.ticks & (tick | (reduced == 0)),
-            leaves: self.leaves & (l.withdrawn.count.0 as u32 <= reduced),
-            exits: self.exits & ((leaves & within) | (!leaves & (exit == 0))),
+            leaves: self.leaves & (withdrawn <= reduced),
+            exits: self.exits & fit,
             others: self.others & (rises | (l.priority == 0)),
             plain: self.plain & (l.priority == 0),
         }
@@ -117,30 +115,20 @@ pub fn number(r: Record, l: Line) -> usize
     0
 }
 
-// "No card: the default bid is 0 on each ticked product, all withdrawn at exit price q, and b = g elsewhere."
+// "No card: the default bid is 0 on each ticked product, all withdrawn at exit price q, and b = g elsewhere." It "is one lot at q".
 pub fn default_line(tick: bool, q: Price, r: Record) -> Line
     ensures { λ x. ⌜ x ≡ defaultLine tick (amountOf q) r ⌝ }
 {
     if !tick {
         return Line {
             tranches: Tranches(r.going.0),
-            withdrawn: Lot {
-                count: Tranches(0),
-                exit: 0,
-            },
+            withdrawn: Lots::none(),
             priority: 0,
         };
     }
-    if r.going.0 == 0 {
-        return Line::none();
-    }
-    let exit = q.amount();
     Line {
         tranches: Tranches(0),
-        withdrawn: Lot {
-            count: Tranches(r.going.0),
-            exit,
-        },
+        withdrawn: Lots::single(r.going, q.amount()),
         priority: 0,
     }
 }

@@ -13,7 +13,7 @@ use Rattle.bits.proofs.BitLaws.{field-small}
 
 pub field-in : (s : List ℕ) (at w : ℕ) → Inside s at w → fieldIn s at w ≡ Value (fieldAt s at w)
 unfolding fieldIn
-field-in s at w h = rw (le-leb (length s) 39 (h .short), le-leb w 17 (h .narrow), le-leb (at + w) (8 * length s) (h .inside))
+field-in s at w h = rw (le-leb (length s) 114 (h .short), le-leb w 17 (h .narrow), le-leb (at + w) (8 * length s) (h .inside))
 
 pub never-past : (s : List ℕ) (at w : ℕ) (r : Field) → r ≡ fieldIn s at w → r ≡ Past → Inside s at w → ⊥
 never-past s at w r e q h = let z : _≡_ {A = ℕ} 0 1 = cc (field-in s at w h) in omega arith

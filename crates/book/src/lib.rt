@@ -8,13 +8,14 @@ ghost use Rattle.rules.specs.Card.{noLine};
 ghost use Rattle.rules.specs.Settings.{setup, targetOf, capOf, startOf, initialOf, percentOf, decrementOf};
 ghost use Rattle.rules.specs.Held.{heldIn, recordAt, freeOf};
 ghost use Rattle.rules.specs.Bid.{priceAt, beforeAt, markAt, hasFiled};
-ghost use Rattle.rules.specs.Layout.{read1, read2, read3, loaded};
+ghost use Rattle.rules.specs.Layout.{lotWidth, lotsWidth, read1, read2, read3, lotRead, lotsRead, loaded};
 ghost use Rattle.book.specs.Lent.{Long};
 use rules::BasisPoints;
 use rules::Decrements;
 use rules::Item;
 use rules::Line;
 use rules::Lot;
+use rules::Lots;
 use rules::Price;
 use rules::Record;
 use rules::Row;
@@ -189,6 +190,27 @@ pub fn row(s: &[u8], i: usize) -> Row
     Row { percent, decrement }
 }
 
+fn lot(s: &[u8], at: usize) -> Lot
+    requires { ⌜ at + lotWidth ≤ length (now s) ⌝ }
+    ensures { λ r. ⌜ r ≡ lotRead (now (s .entry)) at ⌝ }
+{
+    let count = Tranches(byte(s, at) as u16);
+    let exit = three(s, at + 1);
+    Lot { count, exit }
+}
+
+fn lots(s: &[u8], at: usize) -> Lots
+    requires { ⌜ at + lotsWidth ≤ length (now s) ⌝ }
+    ensures { λ r. ⌜ r ≡ lotsRead (now (s .entry)) at ⌝ }
+{
+    Lots {
+        one: lot(s, at),
+        two: lot(s, at + layout::LOT),
+        three: lot(s, at + 2 * layout::LOT),
+        four: lot(s, at + 3 * layout::LOT),
+    }
+}
+
 // The record of bidder b on product p, where k is b * 8 + p.
 pub fn record(s: &[u8], k: usize) -> Record
     requires { ⌜ Long (now s) × (k < 256) ⌝ }
@@ -197,9 +219,7 @@ pub fn record(s: &[u8], k: usize) -> Record
     let at = k * layout::RECORD + layout::RECORDS;
     let going = Tranches(byte(s, at) as u16);
     let denied = Tranches(byte(s, at + 1) as u16);
-    let count = Tranches(byte(s, at + 2) as u16);
-    let exit = three(s, at + 3);
-    let retained = Lot { count, exit };
+    let retained = lots(s, at + 2);
     Record {
         going,
         denied,
@@ -213,7 +233,11 @@ pub fn held(s: &[u8], k: usize) -> Tranches
     ensures { λ r. ⌜ r .0 ≡ heldIn (recordAt (loaded (now (s .entry)) .records) k) ⌝ }
 {
     let at = k * layout::RECORD + layout::RECORDS;
-    Tranches((byte(s, at) + byte(s, at + 1) + byte(s, at + 2)) as u16)
+    let kept = byte(s, at + 2)
+        + byte(s, at + 2 + layout::LOT)
+        + byte(s, at + 2 + 2 * layout::LOT)
+        + byte(s, at + 2 + 3 * layout::LOT);
+    Tranches((byte(s, at) + byte(s, at + 1) + kept) as u16)
 }
 
 // The line that bidder b has filed for product p, where k is b * 8 + p.
@@ -223,10 +247,8 @@ pub fn line(s: &[u8], k: usize) -> Line
 {
     let at = k * layout::LINE + layout::BIDS;
     let tranches = Tranches(byte(s, at) as u16);
-    let count = Tranches(byte(s, at + 1) as u16);
-    let exit = three(s, at + 2);
-    let withdrawn = Lot { count, exit };
-    let priority = s[at + 5];
+    let withdrawn = lots(s, at + 1);
+    let priority = s[at + 1 + layout::LOTS];
     Line {
         tranches,
         withdrawn,

@@ -7,7 +7,6 @@ use asked::Revised;
 use asked::draw_of;
 use asked::ends;
 use asked::groups;
-use asked::lines_of;
 use asked::one_byte;
 use asked::one_number;
 use asked::other_groups;
@@ -335,7 +334,7 @@ fn file_part(work: &mut [u8; STATE], card: &[u8], k: usize, out: &mut [u8; ANSWE
 
 // How many bytes a card has. A count that has no card gets none.
 pub fn card_length(products: usize) -> usize
-    ensures { λ r. ⌜ r ≤ 39 ⌝ }
+    ensures { λ r. ⌜ r ≤ 114 ⌝ }
 {
     if 8 < products {
         return 0;
@@ -381,7 +380,7 @@ fn file_written(work: &mut [u8; STATE], card: &[u8], out: &mut [u8; ANSWER]) -> 
 // The bidder's card of the present round, written and filed.
 fn bid_on(
     bidder: u32,
-    numbers: [u32; 40],
+    lines: [Line; 8],
     products: usize,
     work: &mut [u8; STATE],
     out: &mut [u8; ANSWER],
@@ -389,7 +388,6 @@ fn bid_on(
     ensures { λ _. ⌜ Makes bidWord (now (work .entry)) (now (work .exit)) ⌝ }
 {
     let round = book::round(work);
-    let lines = lines_of(numbers);
     let k = card_length(products);
     let mut room = [0u8; 1024];
     match console::write(&mut room[0..k], products, one_byte(bidder), round, lines) {
@@ -408,24 +406,25 @@ fn bid_on(
     }
 }
 
-// `bid B T W X P ..`
+// `bid B T LOTS P ..`
 fn bid(line: &[u8], c: Cursor, kind: Kind, work: &mut [u8; STATE], out: &mut [u8; ANSWER]) -> Made
     ensures { λ _. ⌜ Makes bidWord (now (work .entry)) (now (work .exit)) ⌝ }
 {
     match one_number(line, c, out) {
         One::Number(bidder, next) => {
-            let mut numbers = [0u32; 40];
-            match groups(line, next, &mut numbers, out) {
-                Numbers::Found(k) => match open_products(kind, work, out) {
-                    Products::Open(products) => {
-                        if k != products {
-                            return Made::Said(other_groups(line, next, products, out));
-                        }
-                        bid_on(bidder, numbers, products, work, out)
+            let asked = groups(line, next, out);
+            if asked.said != 0 {
+                return Made::Said(asked.said);
+            }
+            match open_products(kind, work, out) {
+                Products::Open(products) => {
+                    if asked.count != products {
+                        return Made::Said(other_groups(line, next, products, out));
                     }
-                    Products::Said(n) => Made::Said(n),
-                },
-                Numbers::Said(n) => Made::Said(n),
+                    let lines = asked.lines;
+                    bid_on(bidder, lines, products, work, out)
+                }
+                Products::Said(n) => Made::Said(n),
             }
         }
         One::Said(n) => Made::Said(n),

@@ -15,7 +15,7 @@ use Rattle.rules.specs.declared.CardRead.{CardRead}
 use Rattle.rules.specs.declared.Card.the-variants.{Bid, Refused}
 use Rattle.rules.specs.Bits.{bitAt, fieldAt, putField}
 use Rattle.rules.specs.Count.{allUpTo}
-use Rattle.rules.specs.Card.{noLine, lineBit, cardLength, countFits, readLines, filled, readRefused, bidOf, readCard, putLines, cardOf, writable}
+use Rattle.rules.specs.Card.{noLine, lineBits, lineBit, cardLength, countFits, readLines, filled, readRefused, bidOf, readCard, putLines, cardOf, writable}
 use Rattle.card.specs.Parts.{lineWritable}
 use Rattle.bits.proofs.BitLaws.{Agree, field-agree, agree-field, length-put, put-out, field-before, field-put, Bytes, bits-ext, bytes-put, bytes-zero, bit-zero, field-zero}
 use Rattle.card.proofs.AnswerLaws.{counted, read-bid}
@@ -161,7 +161,7 @@ no-two-alike s t n b r ls hs ht es et = bits-ext s t (x .long ∙ sym (y .long))
     y : Accepted t n b r ls
     y = accepted t n b r ls et
 
-    inside : (i : ℕ) → i < n → Agree s t (lineBit i) 36
+    inside : (i : ℕ) → i < n → Agree s t (lineBit i) lineBits
     inside i l =
         agree-line s t (lineBit i)
         (sym (read-at s n i l (counted n (x .count) .1)) ∙ ap (λ (u : List Line). getD u i noLine) (x .lines ∙ sym (y .lines)) ∙ read-at t n i l (counted n (x .count) .1))
@@ -175,7 +175,7 @@ no-two-alike s t n b r ls hs ht es et = bits-ext s t (x .long ∙ sym (y .long))
                 | yes q ↦ agree-field s t 5 12 (x .round ∙ sym (y .round)) k (omega (arith, p)) q
                 | no q ↦
                     elim (decLt k (lineBit n)) [
-                      | yes m ↦ inside ((k - 17) / 36) (omega (arith, q)) k (omega (arith, q)) (omega (arith, q))
+                      | yes m ↦ inside ((k - 17) / lineBits) (omega (arith, q)) k (omega (arith, q)) (omega (arith, q))
                       | no m ↦
                           agree-field s t (lineBit n) (8 * cardLength n - lineBit n) (x .filled ∙ sym (y .filled)) k (omega (arith, m)) (omega (arith, x .long))
                     ]

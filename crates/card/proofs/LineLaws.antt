@@ -1,93 +1,75 @@
 -- The laws of a card's lines: put, read, and tested whether they fit. Assumes nothing.
 use mathlib.Core.Path.{_≡_, refl, ap, ap₂, _∙_}
 use mathlib.Core.Logic.{inl}
-use mathlib.Core.Bool.{Bool, true, false, _&&_, cond, false≢true, and-eq-true-iff}
+use mathlib.Core.Bool.{Bool, true, false, _&&_, cond, and-eq-true-iff}
 use mathlib.Core.List.{List}
 use Prim.Native.Nat.{ℕ, zero, suc, _+_, _*_, _≤_, _<_}
 use native.Mathlib.Decide.{decLt}
 use native.Mathlib.Omega.{arith}
 use lib.ListN.{length, getD, length-set, getD-replicate}
 use lib.Seq.{getD-set-same, getD-set-other}
-use lib.Dec.{ltb, eqb}
-use borrow.Author.Tests.{lt-ltb, le-ltb, ltb-true, eqb-true}
+use borrow.Author.Tests.{lt-ltb, le-ltb}
 use Rattle.rules.specs.declared.Line.{Line}
-use Rattle.rules.specs.Bits.{bitAt, fieldAt}
+use Rattle.rules.specs.Bits.{bitAt, fieldAt, putField}
 use Rattle.rules.specs.Count.{allUpTo}
-use Rattle.rules.specs.Card.{line, noLine, lineBit, lineAt, readLines, putLine, putLines, lineFits, lineZero}
+use Rattle.rules.specs.Lots.{lotsZero}
+use Rattle.rules.specs.Card.{line, noLine, lotBits, lineBits, lineBit, lotsFrom, lineAt, readLines, putLots, putLine, putLines, lotsFit, lineFits, lineZero}
 use Rattle.rules.specs.Settings.{between}
 use Rattle.rules.proofs.Allowed.{from-zero, only-zero}
+use Rattle.rules.proofs.Tests.{told, shown}
+use Rattle.rules.proofs.LotLaws.{zero-none}
 use Rattle.card.specs.Parts.{lineWritable}
 use Rattle.bits.proofs.BitLaws.{field-small, Agree, field-agree, agree-field, agree-join, length-put, Outside, outside-part, put-out, field-before, field-put, Bytes, bytes-put}
+use Rattle.card.proofs.LotLaws.{lots-agree, agree-lots, read-lots-fit, LotsFit, lots-fit, length-putLots, bytes-putLots, lots-out, lots-put}
 
 -- ---- a line tested
 
 -- in use, or past the count
 pub fields-are : (t : Bool) (l : Line)
     → (between 0 (l .tranches .0) (cond t 255 0)
-    && (between 0 (l .withdrawn .count .0) (cond t 255 0)
-    && (between 0 (l .withdrawn .exit) (cond t 131071 0) && between 0 (l .priority) (cond t 7 0))))
+    && (cond t (lotsFit (l .withdrawn)) (lotsZero (l .withdrawn)) && between 0 (l .priority) (cond t 7 0)))
     ≡ cond t (lineFits l) (lineZero l)
-fields-are true l =
-    ap₂ _&&_ (from-zero (l .tranches .0) 255)
-    (ap₂ _&&_ (from-zero (l .withdrawn .count .0) 255) (ap₂ _&&_ (from-zero (l .withdrawn .exit) 131071) (from-zero (l .priority) 7)))
-fields-are false l =
-    ap₂ _&&_ (only-zero (l .tranches .0))
-    (ap₂ _&&_ (only-zero (l .withdrawn .count .0)) (ap₂ _&&_ (only-zero (l .withdrawn .exit)) (only-zero (l .priority))))
+fields-are true l = ap₂ _&&_ (from-zero (l .tranches .0) 255) (ap (λ t. lotsFit (l .withdrawn) && t) (from-zero (l .priority) 7))
+fields-are false l = ap₂ _&&_ (only-zero (l .tranches .0)) (ap (λ t. lotsZero (l .withdrawn) && t) (only-zero (l .priority)))
 
 -- ---- a line read
 
-pub line-agree : (s t : List ℕ) (at : ℕ) → Agree s t at 36 → lineAt s at ≡ lineAt t at
+pub line-agree : (s t : List ℕ) (at : ℕ) → Agree s t at lineBits → lineAt s at ≡ lineAt t at
 line-agree s t at h =
     λ i.
     line (field-agree s t at 8 (λ k a l. h k (omega arith) (omega arith)) i)
-    (field-agree s t (at + 8) 8 (λ k a l. h k (omega arith) (omega arith)) i)
-    (field-agree s t (at + 16) 17 (λ k a l. h k (omega arith) (omega arith)) i)
-    (field-agree s t (at + 33) 3 (λ k a l. h k (omega arith) (omega arith)) i)
+    (lots-agree s t (at + 8) (λ k a l. h k (omega arith) (omega arith)) i)
+    (field-agree s t (at + 8 + 4 * lotBits) 3 (λ k a l. h k (omega arith) (omega arith)) i)
 
-pub agree-line : (s t : List ℕ) (at : ℕ) → lineAt s at ≡ lineAt t at → Agree s t at 36
+pub agree-line : (s t : List ℕ) (at : ℕ) → lineAt s at ≡ lineAt t at → Agree s t at lineBits
 agree-line s t at e =
-    agree-join s t at 33 3
-    (agree-join s t at 16 17
-    (agree-join s t at 8 8 (agree-field s t at 8 (ap (λ (x : Line). x .tranches .0) e)) (agree-field s t (at + 8) 8 (ap (λ (x : Line). x .withdrawn .count .0) e)))
-    (agree-field s t (at + 16) 17 (ap (λ (x : Line). x .withdrawn .exit) e)))
-    (agree-field s t (at + 33) 3 (ap (λ (x : Line). x .priority) e))
+    agree-join s t at 8 (4 * lotBits + 3) (agree-field s t at 8 (ap (λ (x : Line). x .tranches .0) e))
+    (agree-join s t (at + 8) (4 * lotBits) 3 (agree-lots s t (at + 8) (ap (λ (x : Line). x .withdrawn) e)) (agree-field s t (at + 8 + 4 * lotBits) 3 (ap (λ (x : Line). x .priority) e)))
 
 -- ---- whether a line fits
 
--- four tests passed together have each passed
-four : (a b c d : Bool) → (a && (b && (c && d))) ≡ true → ((a ≡ true) × (b ≡ true)) × ((c ≡ true) × (d ≡ true))
-four true true true d e = ((refl, refl), (refl, e))
-four true true false d e = absurd (false≢true e)
-four true false c d e = absurd (false≢true e)
-four false b c d e = absurd (false≢true e)
-
 pub record Fits (l : Line) : Type 0 where
   pub tranches : l .tranches .0 < 256
-  pub count : l .withdrawn .count .0 < 256
-  pub exit : l .withdrawn .exit < 131072
+  pub withdrawn : LotsFit (l .withdrawn)
   pub priority : l .priority < 8
 
 pub fits : (l : Line) → lineFits l ≡ true → Fits l
-fits l e =
-    let q = four (ltb (l .tranches .0) 256) (ltb (l .withdrawn .count .0) 256) (ltb (l .withdrawn .exit) 131072) (ltb (l .priority) 8) e in
-    record { tranches = ltb-true _ _ (q .0 .0); count = ltb-true _ _ (q .0 .1); exit = ltb-true _ _ (q .1 .0); priority = ltb-true _ _ (q .1 .1) }
+fits l e = record { tranches = search told; withdrawn = lots-fit (l .withdrawn) (search told); priority = search told }
 
 pub zero-line : (l : Line) → lineZero l ≡ true → l ≡ noLine
 zero-line l e =
-    let q = four (eqb (l .tranches .0) 0) (eqb (l .withdrawn .count .0) 0) (eqb (l .withdrawn .exit) 0) (eqb (l .priority) 0) e in
-    λ i.
-    line (eqb-true (l .tranches .0) 0 (q .0 .0) i) (eqb-true (l .withdrawn .count .0) 0 (q .0 .1) i) (eqb-true (l .withdrawn .exit) 0 (q .1 .0) i)
-    (eqb-true (l .priority) 0 (q .1 .1) i)
+    let t : l .tranches .0 ≡ 0 = search told in
+    let w = zero-none (l .withdrawn) (search told) in
+    let p : l .priority ≡ 0 = search told in
+    λ i. line (t i) (w i) (p i)
 
 -- whatever bits a line is read from, it fits
 pub read-fits : (s : List ℕ) (at : ℕ) → lineFits (lineAt s at) ≡ true
 read-fits s at =
-    rw (
-      lt-ltb (fieldAt s at 8) 256 (field-small s at 8),
-      lt-ltb (fieldAt s (at + 8) 8) 256 (field-small s (at + 8) 8),
-      lt-ltb (fieldAt s (at + 16) 17) 131072 (field-small s (at + 16) 17),
-      lt-ltb (fieldAt s (at + 33) 3) 8 (field-small s (at + 33) 3),
-    )
+    let t : fieldAt s at 8 < 256 = field-small s at 8 in
+    let w = read-lots-fit s (at + 8) in
+    let p : fieldAt s (at + 8 + 4 * lotBits) 3 < 8 = field-small s (at + 8 + 4 * lotBits) 3 in
+    search shown
 
 -- each of the first n tests has passed where all have together
 pub all-at : (test : ℕ → Bool) (n i : ℕ) → allUpTo test n ≡ true → i < n → test i ≡ true
@@ -105,41 +87,50 @@ all-of test (suc n) h = rw (all-of test n (λ i l. h i (omega arith)), h n (omeg
 -- ---- a line put
 
 module _ (s : List ℕ) (at : ℕ) (l : Line) where
+  -- the tranches put, and the lots
+  abbrev s₁ : List ℕ
+  s₁ = putField s at 8 (l .tranches .0)
+
+  abbrev s₂ : List ℕ
+  s₂ = putLots s₁ (at + 8) (l .withdrawn)
+
   pub length-putLine : length (putLine s at l) ≡ length s
-  length-putLine = simp length-put
+  unfolding putLine
+  length-putLine = simp (length-put, length-putLots)
 
   pub bytes-putLine : Bytes s → Bytes (putLine s at l)
-  bytes-putLine h = bytes-put _ _ _ _ (bytes-put _ _ _ _ (bytes-put _ _ _ _ (bytes-put _ _ _ _ h)))
+  unfolding putLine
+  bytes-putLine h = bytes-put _ _ _ _ (bytes-putLots _ _ _ (bytes-put _ _ _ _ h))
 
   -- the bits outside it stand
-  pub line-out : (k : ℕ) → Outside k at 36 → bitAt (putLine s at l) k ≡ bitAt s k
+  pub line-out : (k : ℕ) → Outside k at lineBits → bitAt (putLine s at l) k ≡ bitAt s k
+  unfolding putLine
   line-out k o =
-      put-out _ (at + 33) 3 _ k (outside-part k at 36 (at + 33) 3 o (omega arith) (omega arith))
-      ∙ put-out _ (at + 16) 17 _ k (outside-part k at 36 (at + 16) 17 o (omega arith) (omega arith))
-      ∙ put-out _ (at + 8) 8 _ k (outside-part k at 36 (at + 8) 8 o (omega arith) (omega arith))
-      ∙ put-out s at 8 _ k (outside-part k at 36 at 8 o (omega arith) (omega arith))
+      put-out s₂ (at + 8 + 4 * lotBits) 3 _ k (outside-part k at lineBits (at + 8 + 4 * lotBits) 3 o (omega arith) (omega arith))
+      ∙ lots-out s₁ (at + 8) (l .withdrawn) k (outside-part k at lineBits (at + 8) (4 * lotBits) o (omega arith) (omega arith))
+      ∙ put-out s at 8 _ k (outside-part k at lineBits at 8 o (omega arith) (omega arith))
 
   -- one that fits is read back
-  pub line-put : at + 36 ≤ 8 * length s → Fits l → lineAt (putLine s at l) at ≡ l
-  line-put h f = λ i. line (t i) (w i) (e i) (p i)
+  pub line-put : at + lineBits ≤ 8 * length s → Fits l → lineAt (putLine s at l) at ≡ l
+  unfolding putLine
+  line-put h f = λ i. line (t i) (w i) (p i)
     where
-      t : fieldAt (putLine s at l) at 8 ≡ l .tranches .0
+      s₃ : List ℕ
+      s₃ = putField s₂ (at + 8 + 4 * lotBits) 3 (l .priority)
+
+      t : fieldAt s₃ at 8 ≡ l .tranches .0
       t =
-          field-before _ (at + 33) 3 _ at 8 (omega arith) ∙ field-before _ (at + 16) 17 _ at 8 (omega arith) ∙ field-before _ (at + 8) 8 _ at 8 (omega arith)
+          field-before s₂ (at + 8 + 4 * lotBits) 3 (l .priority) at 8 (omega arith)
+          ∙ field-agree s₂ s₁ at 8 (λ k a b. lots-out s₁ (at + 8) (l .withdrawn) k (inl (omega arith)))
           ∙ field-put s at 8 (l .tranches .0) (omega arith) (f .tranches)
 
-      w : fieldAt (putLine s at l) (at + 8) 8 ≡ l .withdrawn .count .0
+      w : lotsFrom s₃ (at + 8) ≡ l .withdrawn
       w =
-          field-before _ (at + 33) 3 _ (at + 8) 8 (omega arith) ∙ field-before _ (at + 16) 17 _ (at + 8) 8 (omega arith)
-          ∙ field-put _ (at + 8) 8 (l .withdrawn .count .0) (simp length-put (omega arith)) (f .count)
+          lots-agree s₃ s₂ (at + 8) (λ k a b. put-out s₂ (at + 8 + 4 * lotBits) 3 (l .priority) k (inl (omega arith)))
+          ∙ lots-put s₁ (at + 8) (l .withdrawn) (simp length-put (omega arith)) (f .withdrawn)
 
-      e : fieldAt (putLine s at l) (at + 16) 17 ≡ l .withdrawn .exit
-      e =
-          field-before _ (at + 33) 3 _ (at + 16) 17 (omega arith)
-          ∙ field-put _ (at + 16) 17 (l .withdrawn .exit) (simp length-put (omega arith)) (f .exit)
-
-      p : fieldAt (putLine s at l) (at + 33) 3 ≡ l .priority
-      p = field-put _ (at + 33) 3 (l .priority) (simp length-put (omega arith)) (f .priority)
+      p : fieldAt s₃ (at + 8 + 4 * lotBits) 3 ≡ l .priority
+      p = field-put s₂ (at + 8 + 4 * lotBits) 3 (l .priority) (simp (length-put, length-putLots) (omega arith)) (f .priority)
 
 -- ---- the lines put
 
@@ -153,12 +144,12 @@ unfolding putLines
 bytes-putLines s ls zero h = h
 bytes-putLines s ls (suc n) h = bytes-putLine (putLines s ls n) (lineBit n) (getD ls n noLine) (bytes-putLines s ls n h)
 
-pub lines-out : (s : List ℕ) (ls : List Line) (n k : ℕ) → Outside k 17 (36 * n) → bitAt (putLines s ls n) k ≡ bitAt s k
+pub lines-out : (s : List ℕ) (ls : List Line) (n k : ℕ) → Outside k 17 (lineBits * n) → bitAt (putLines s ls n) k ≡ bitAt s k
 unfolding putLines
 lines-out s ls zero k o = refl
 lines-out s ls (suc n) k o =
-    line-out (putLines s ls n) (lineBit n) (getD ls n noLine) k (outside-part k 17 (36 * suc n) (lineBit n) 36 o (omega arith) (omega arith))
-    ∙ lines-out s ls n k (outside-part k 17 (36 * suc n) 17 (36 * n) o (omega arith) (omega arith))
+    line-out (putLines s ls n) (lineBit n) (getD ls n noLine) k (outside-part k 17 (lineBits * suc n) (lineBit n) lineBits o (omega arith) (omega arith))
+    ∙ lines-out s ls n k (outside-part k 17 (lineBits * suc n) 17 (lineBits * n) o (omega arith) (omega arith))
 
 pub lines-put : (s : List ℕ) (ls : List Line) (n : ℕ) → lineBit n ≤ 8 * length s → ((i : ℕ) → i < n → Fits (getD ls i noLine)) →
     (i : ℕ) → i < n → lineAt (putLines s ls n) (lineBit i) ≡ getD ls i noLine

@@ -1,5 +1,5 @@
-// The bid card: "Bits packed most significant first: bidder 5, round 12; then for each product in rank: tranches 8,
-// withdrawn 8, exit price 17, switching priority 3. Zero bits fill the last byte."
+// The bid card: "Bits packed most significant first: bidder 5, round 12; then for each product in rank: tranches 8", "up to
+// four lots, each a count of 8 bits and a price of 17", "switching priority 3. Zero bits fill the last byte."
 ghost use mathlib.Core.Path.{_≡_};
 ghost use mathlib.Core.Bool.{cond};
 ghost use Prim.Native.Nat.{_+_, _*_, _-_, _≤_, _<_};
@@ -7,7 +7,8 @@ ghost use lib.ListN.{length};
 ghost use lib.Dec.{ltb};
 ghost use Rattle.rules.specs.Count.{allUpTo};
 ghost use Rattle.rules.specs.Allowed.{limits};
-ghost use Rattle.rules.specs.Card.{lineBit, cardLength, lineFits, lineZero, lineAt, readLines, readRefused, readCard, putLine, putLines, writeCard};
+ghost use Rattle.rules.specs.Lots.{lotZero, lotsZero};
+ghost use Rattle.rules.specs.Card.{lotBits, lineBits, lineBit, cardLength, lotFits, lotsFit, lineFits, lineZero, lotFrom, lotsFrom, lineAt, readLines, readRefused, readCard, putLot, putLots, putLine, putLines, writeCard};
 ghost use Rattle.card.specs.Parts.{lineWritable};
 use bits::put_field;
 use bits::value;
@@ -17,6 +18,7 @@ use rules::CardRead;
 use rules::Limits;
 use rules::Line;
 use rules::Lot;
+use rules::Lots;
 use rules::Tranches;
 
 // ---- places
@@ -24,13 +26,16 @@ use rules::Tranches;
 // "bidder 5, round 12": where the line of the first product begins.
 const LINES: usize = 17;
 
-// "tranches 8, withdrawn 8, exit price 17, switching priority 3"
-const LINE: usize = 36;
+// "up to four lots, each a count of 8 bits and a price of 17"
+const LOT: usize = 8 + 17;
+
+// "tranches 8", the lots, "switching priority 3"
+const LINE: usize = 8 + 4 * LOT + 3;
 
 // How many bytes a card has: "Zero bits fill the last byte."
 pub fn length_for(products: usize) -> usize
     requires { ⌜ products ≤ 8 ⌝ }
-    ensures { λ r. ⌜ (r ≡ cardLength products) × (r ≤ 39) ⌝ }
+    ensures { λ r. ⌜ (r ≡ cardLength products) × (r ≤ 114) ⌝ }
 {
     (LINES + LINE * products + 7) / 8
 }
@@ -45,20 +50,40 @@ pub fn filling_for(products: usize) -> usize
 
 // ---- reading
 
+fn lot_at(card: &[u8], at: usize) -> Lot
+    requires { ⌜ (at + lotBits ≤ 8 * length (now card)) × (length (now card) ≤ 114) ⌝ }
+    ensures { λ r. ⌜ r ≡ lotFrom (now (card .entry)) at ⌝ }
+{
+    let count = value(card, at, 8) as u16;
+    let exit = value(card, at + 8, 17);
+    Lot {
+        count: Tranches(count),
+        exit,
+    }
+}
+
+fn lots_at(card: &[u8], at: usize) -> Lots
+    requires { ⌜ (at + 4 * lotBits ≤ 8 * length (now card)) × (length (now card) ≤ 114) ⌝ }
+    ensures { λ r. ⌜ r ≡ lotsFrom (now (card .entry)) at ⌝ }
+{
+    Lots {
+        one: lot_at(card, at),
+        two: lot_at(card, at + LOT),
+        three: lot_at(card, at + 2 * LOT),
+        four: lot_at(card, at + 3 * LOT),
+    }
+}
+
 fn line_at(card: &[u8], at: usize) -> Line
-    requires { ⌜ (at + 36 ≤ 8 * length (now card)) × (length (now card) ≤ 39) ⌝ }
+    requires { ⌜ (at + lineBits ≤ 8 * length (now card)) × (length (now card) ≤ 114) ⌝ }
     ensures { λ r. ⌜ r ≡ lineAt (now (card .entry)) at ⌝ }
 {
     let tranches = value(card, at, 8) as u16;
-    let count = value(card, at + 8, 8) as u16;
-    let exit = value(card, at + 16, 17);
-    let priority = value(card, at + 33, 3) as u8;
+    let withdrawn = lots_at(card, at + 8);
+    let priority = value(card, at + 8 + 4 * LOT, 3) as u8;
     Line {
         tranches: Tranches(tranches),
-        withdrawn: Lot {
-            count: Tranches(count),
-            exit,
-        },
+        withdrawn,
         priority,
     }
 }
@@ -117,14 +142,31 @@ pub fn read(card: &[u8], products: usize) -> CardRead
 
 // ---- writing
 
+fn put_lot(room: &mut [u8], at: usize, lot: Lot)
+    requires { ⌜ (at + lotBits ≤ 8 * length (now room)) × (length (now room) ≤ 114) ⌝ }
+    ensures { λ _. ⌜ now (room .exit) ≡ putLot (now (room .entry)) at lot ⌝ }
+{
+    put_field(room, at, 8, lot.count.0 as u32);
+    put_field(room, at + 8, 17, lot.exit);
+}
+
+fn put_lots(room: &mut [u8], at: usize, lots: Lots)
+    requires { ⌜ (at + 4 * lotBits ≤ 8 * length (now room)) × (length (now room) ≤ 114) ⌝ }
+    ensures { λ _. ⌜ now (room .exit) ≡ putLots (now (room .entry)) at lots ⌝ }
+{
+    put_lot(room, at, lots.one);
+    put_lot(room, at + LOT, lots.two);
+    put_lot(room, at + 2 * LOT, lots.three);
+    put_lot(room, at + 3 * LOT, lots.four);
+}
+
 fn put_line(room: &mut [u8], at: usize, line: Line)
-    requires { ⌜ (at + 36 ≤ 8 * length (now room)) × (length (now room) ≤ 39) ⌝ }
+    requires { ⌜ (at + lineBits ≤ 8 * length (now room)) × (length (now room) ≤ 114) ⌝ }
     ensures { λ _. ⌜ now (room .exit) ≡ putLine (now (room .entry)) at line ⌝ }
 {
     put_field(room, at, 8, line.tranches.0 as u32);
-    put_field(room, at + 8, 8, line.withdrawn.count.0 as u32);
-    put_field(room, at + 16, 17, line.withdrawn.exit);
-    put_field(room, at + 33, 3, line.priority as u32);
+    put_lots(room, at + 8, line.withdrawn);
+    put_field(room, at + 8 + 4 * LOT, 3, line.priority as u32);
 }
 
 fn put_lines(room: &mut [u8], lines: [Line; 8], products: usize)
@@ -139,7 +181,8 @@ fn put_lines(room: &mut [u8], lines: [Line; 8], products: usize)
     }
 }
 
-// What a field holds, of the bits that it has: "bidder 5, round 12"; "tranches 8, withdrawn 8, exit price 17, switching priority 3".
+// What a field holds, of the bits that it has: "bidder 5, round 12"; "tranches 8", "each a count of 8 bits and a price of 17",
+// "switching priority 3".
 pub const MOST_BIDDER: u32 = 31;
 
 pub const MOST_ROUND: u32 = 4095;
@@ -166,15 +209,31 @@ pub fn field_limits(products: usize, i: usize, most: u32) -> Limits
     up_to(0)
 }
 
+fn lot_writable(products: usize, i: usize, lot: Lot) -> bool
+    ensures { λ r. ⌜ r ≡ cond (ltb i products) (lotFits lot) (lotZero lot) ⌝ }
+{
+    let of_count = field_limits(products, i, MOST_TRANCHES);
+    let of_exit = field_limits(products, i, MOST_EXIT);
+    of_count.holds(lot.count.0 as u32) & of_exit.holds(lot.exit)
+}
+
+fn lots_writable(products: usize, i: usize, lots: Lots) -> bool
+    ensures { λ r. ⌜ r ≡ cond (ltb i products) (lotsFit lots) (lotsZero lots) ⌝ }
+{
+    let one = lot_writable(products, i, lots.one);
+    let two = lot_writable(products, i, lots.two);
+    let three = lot_writable(products, i, lots.three);
+    let four = lot_writable(products, i, lots.four);
+    one & (two & (three & four))
+}
+
 fn line_writable(products: usize, i: usize, line: Line) -> bool
     ensures { λ r. ⌜ r ≡ cond (ltb i products) (lineFits line) (lineZero line) ⌝ }
 {
     let of_tranches = field_limits(products, i, MOST_TRANCHES);
-    let of_exit = field_limits(products, i, MOST_EXIT);
     let of_priority = field_limits(products, i, MOST_PRIORITY);
     of_tranches.holds(line.tranches.0 as u32)
-        & (of_tranches.holds(line.withdrawn.count.0 as u32)
-            & (of_exit.holds(line.withdrawn.exit) & of_priority.holds(line.priority as u32)))
+        & (lots_writable(products, i, line.withdrawn) & of_priority.holds(line.priority as u32))
 }
 
 // A line fits its bits; past the count it is all zero.

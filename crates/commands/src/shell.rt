@@ -129,11 +129,51 @@ fn is_ok(out: &[u8; ANSWER], n: usize) -> bool {
     false
 }
 
-// Writes the answer with the names beside its numbers: whether all was taken.
+// So much of an answer, and the rest of its last line, has room in another one with its names.
+const PART: usize = 16384;
+
+// The place after the first line end from a place on, or n.
+fn after_line(out: &[u8; ANSWER], at: usize, n: usize) -> usize
+    requires { ⌜ (at ≤ n) × (n ≤ 65536) ⌝ }
+    ensures { λ r. ⌜ (at ≤ r) × (r ≤ n) ⌝ }
+{
+    let mut i = at;
+    while i < n {
+        if out[i] == b'\n' {
+            return i + 1;
+        }
+        i += 1;
+    }
+    i
+}
+
+// Where the part of an answer ends that begins at a place.
+fn part_end(out: &[u8; ANSWER], from: usize, n: usize) -> usize
+    requires { ⌜ (from < n) × (n ≤ 65536) ⌝ }
+    ensures { λ r. ⌜ (from < r) × (r ≤ n) ⌝ }
+{
+    if n - from <= PART {
+        return n;
+    }
+    after_line(out, from + PART, n)
+}
+
+// Writes the answer with the names beside its numbers, part by part: whether all was taken.
 fn send_named(out: &[u8; ANSWER], n: usize, names: &[u8; NAMES]) -> bool {
+    if ANSWER < n {
+        return false;
+    }
     let mut shown = io::large_buffer();
-    let k = put_names(&mut shown, out, n, names);
-    send(&shown, k)
+    let mut from = 0;
+    while from < n {
+        let to = part_end(out, from, n);
+        let k = put_names(&mut shown, out, from, to, names);
+        if !send(&shown, k) {
+            return false;
+        }
+        from = to;
+    }
+    true
 }
 
 // Writes the answer, and takes in what it was. `length` is that of the line.

@@ -80,7 +80,7 @@ fn tell_box(
     };
     let n = put(out, d, b"\n");
     let mut shown = io::large_buffer();
-    let k = put_names(&mut shown, out, n, names);
+    let k = put_names(&mut shown, out, 0, n, names);
     tell(&shown, k);
 }
 

@@ -17,6 +17,7 @@ use Rattle.rules.specs.Units.{tranches}
 use Rattle.rules.specs.Answers.{bidsOpen, stopped}
 use Rattle.rules.specs.Parts.{tranchesAt, noLane, laneAt, priced, marked, limited, auction, withPhase, withLimits, withPrices, unmarked}
 use Rattle.rules.specs.Settings.{between, setup, targetOf, capOf, startOf}
+use Rattle.rules.specs.Lots.{noLots}
 use Rattle.rules.specs.Held.{nothing, goingIn, heldIn, recordAt, place, setTo, above, standingOf}
 use Rattle.rules.specs.Accept.{at, nowhere, placeAt, column, heldOf}
 use Rattle.rules.specs.Bid.{oneIf, recordOf, priceAt}
@@ -139,7 +140,7 @@ module _ (a : Auction) (targets caps : List Tranches) where
   z = reduced a targets caps
 
   abbrev placed : ℕ → Place
-  placed k = at (setTo (recordAt (a .records) k) (givenFor caps (k % 8))) 0 0 0 0 0
+  placed k = at (setTo (recordAt (a .records) k) (givenFor caps (k % 8))) noLots 0 0 0
 
   abbrev limits : Auction
   limits = unmarked (withLimits (setToCaps a caps) (givenFor targets) (givenFor caps))

@@ -6,6 +6,7 @@ ghost use Rattle.rules.specs.Count.{sumUpTo, listOf};
 ghost use Rattle.rules.specs.Allowed.{limits};
 ghost use Rattle.rules.specs.Units.{tranches};
 ghost use Rattle.rules.specs.Settings.{setup, targetOf, capOf, startOf};
+ghost use Rattle.rules.specs.Lots.{noLots};
 ghost use Rattle.rules.specs.Held.{recordAt, setTo};
 ghost use Rattle.rules.specs.Accept.{at};
 ghost use Rattle.rules.specs.Round.{notChosen};
@@ -19,7 +20,7 @@ ghost use Rattle.cutback.specs.Cuttable.{fitsAfter, Cuttable, limitedTo,
 use prices::Lanes;
 use rules::Chosen;
 use rules::Limits;
-use rules::Lot;
+use rules::Lots;
 use rules::OPEN;
 use rules::Override;
 use rules::Place;
@@ -144,7 +145,7 @@ fn lanes_of(s: &[u8], targets: [Tranches; 8]) -> Lanes
 // "A bidder above a reduced cap is set to the cap".
 fn set_to_caps(s: &[u8], caps: [Tranches; 8], ps: &mut [[u32; WIDTH]; 256])
     requires { ⌜ Long (now s) × (length (now ps) ≡ 256) ⌝ }
-    ensures { λ _. ⌜ placesIn (now (ps .exit)) ≡ listOf (λ k. at (setTo (recordAt (loaded (now (s .entry)) .records) k) (givenFor caps (k % 8))) 0 0 0 0 0) 256 ⌝ }
+    ensures { λ _. ⌜ placesIn (now (ps .exit)) ≡ listOf (λ k. at (setTo (recordAt (loaded (now (s .entry)) .records) k) (givenFor caps (k % 8))) noLots 0 0 0) 256 ⌝ }
 {
     let mut k: usize = 0;
     while k < 256 {
@@ -153,10 +154,7 @@ fn set_to_caps(s: &[u8], caps: [Tranches; 8], ps: &mut [[u32; WIDTH]; 256])
         let holds = own.set_to(cap);
         let place = Place {
             holds,
-            leaving: Lot {
-                count: Tranches(0),
-                exit: 0,
-            },
+            leaving: Lots::none(),
             moving: Tranches(0),
             rise: Tranches(0),
             priority: 0,

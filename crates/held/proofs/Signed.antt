@@ -21,14 +21,14 @@ by-mag : (t : Bool) (m n k : ℕ) → m ≤ k → n ≤ k → mag (cond t (negsu
 by-mag true m n k h l = h
 by-mag false m n k h l = l
 
--- two numbers of at most ten million, far inside an i32
-module _ (a b : ℕ) (h : a ≤ 10000000) (k : b ≤ 10000000) where
+-- two numbers of at most twenty million, far inside an i32
+module _ (a b : ℕ) (h : a ≤ 20000000) (k : b ≤ 20000000) where
   pub less : toZ w32 a -ℤ toZ w32 b ≡ subℕ a b
   less = ap₂ _-ℤ_ (toZ-pos w32 a (omega arith)) (toZ-pos w32 b (omega arith)) ∙ diff a b
 
   pub less-fits : SFits w32 (subℕ a b)
   less-fits =
-      let m = by-mag (ltb a b) (b - suc a) (a - b) 10000000 (omega arith) (omega arith) in
+      let m = by-mag (ltb a b) (b - suc a) (a - b) 20000000 (omega arith) (omega arith) in
       record { sfits = omega arith }
 
   -- the bits of the difference, read back
@@ -43,8 +43,8 @@ by-above false m n k h = h
 pub above-le : (a b : ℕ) → aboveZero (subℕ a b) ≤ a
 above-le a b = by-above (ltb a b) (b - suc a) (a - b) a (omega arith)
 
--- a standing worked out from what is held, of at most 6,291,360
-pub standing-is : {z : ℤ} {x y a b : ℕ} → z ≡ subℕ x y → x ≡ a → y ≡ b → x ≤ 6291360 → (z ≡ subℕ a b) × (aboveZero (subℕ a b) ≤ 6291360)
+-- a standing worked out from what is held, of at most 12,582,720
+pub standing-is : {z : ℤ} {x y a b : ℕ} → z ≡ subℕ x y → x ≡ a → y ≡ b → x ≤ 12582720 → (z ≡ subℕ a b) × (aboveZero (subℕ a b) ≤ 12582720)
 standing-is {z} {x} {y} e f g l = (e ∙ ap₂ subℕ f g, rw (← f, ← g) (le-trans (above-le x y) l))
 
 by-sign : (z : ℤ) → ltZ (pos 0) z ≡ true → T (nonNeg z) × (natAbs z ≡ aboveZero z)

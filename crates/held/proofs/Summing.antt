@@ -16,7 +16,7 @@ use Rattle.held.specs.Sums.{heldOn, AllHeld}
 -- what the loop knows after the first i products
 pub record Summing (a : Auction) (i : ℕ) (xs : List ℕ) : Type 0 where
   pub filled : Filled (heldOn a) 8 i xs
-  pub few : allUpTo (λ p. leb (heldOn a p) 6291360) i ≡ true
+  pub few : allUpTo (λ p. leb (heldOn a p) 12582720) i ≡ true
 
 -- a number of a list that a loop has filled
 pub filled-at : {f : ℕ → ℕ} {n i : ℕ} {xs : List ℕ} → Filled f n i xs → n ≤ i → (p : ℕ) → p < n → getD xs p 0 ≡ f p
@@ -26,16 +26,16 @@ module _ {a : Auction} where
   pub none-summed : (xs : List ℕ) → length xs ≡ 8 → Summing a 0 xs
   none-summed xs e = record { filled = none-filled xs e; few = all-give _ 0 (λ i l. absurd (let x : ⊥ = omega arith in x)) }
 
-  pub one-summed : {i : ℕ} {xs : List ℕ} (v : ℕ) → Summing a i xs → i < 8 → v ≡ heldOn a i → v ≤ 6291360
+  pub one-summed : {i : ℕ} {xs : List ℕ} (v : ℕ) → Summing a i xs → i < 8 → v ≡ heldOn a i → v ≤ 12582720
       → Summing a (i + 1) (set xs i v)
   one-summed {i} v h k e l = record {
     filled = one-more v (h .filled) k e;
-    few = all-more _ i (h .few) (le-leb _ _ (subst (λ x. x ≤ 6291360) e l));
+    few = all-more _ i (h .few) (le-leb _ _ (subst (λ x. x ≤ 12582720) e l));
   }
 
   pub all-summed : {i : ℕ} {xs : List ℕ} → Summing a i xs → 8 ≤ i → AllHeld a xs
   all-summed {i} h k = record {
     each = filled-at (h .filled) k;
-    few = λ p l. subst (λ x. x ≤ 6291360) (sym (filled-at (h .filled) k p l))
-        (leb-true _ _ (all-take (λ p. leb (heldOn a p) 6291360) i (h .few) p (omega arith)));
+    few = λ p l. subst (λ x. x ≤ 12582720) (sym (filled-at (h .filled) k p l))
+        (leb-true _ _ (all-take (λ p. leb (heldOn a p) 12582720) i (h .few) p (omega arith)));
   }

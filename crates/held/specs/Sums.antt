@@ -14,7 +14,7 @@ heldOn a p = held (a .records) (a .terms .bidders) p
 
 pub record AllHeld (a : Auction) (xs : List ℕ) : Type 0 where
   pub each : (p : ℕ) → p < 8 → getD xs p 0 ≡ heldOn a p
-  pub few : (p : ℕ) → p < 8 → getD xs p 0 ≤ 6291360
+  pub few : (p : ℕ) → p < 8 → getD xs p 0 ≤ 12582720
 
 abbrev pub AllKept : Auction → List ℕ → Type 0
 AllKept a xs = (p : ℕ) → p < 8 → getD xs p 0 ≡ keptOn a p

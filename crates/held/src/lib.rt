@@ -16,7 +16,7 @@ ghost use Rattle.held.specs.Sums.{heldOn, AllHeld, Summed};
 // "Held is g + d + r over all bidders."
 pub fn held(s: &[u8], p: usize) -> u32
     requires { ⌜ Lent (now s) × (p < 8) ⌝ }
-    ensures { λ r. ⌜ (r ≡ held (loaded (now (s .entry)) .records) (loaded (now (s .entry)) .terms .bidders) p) × (r ≤ 6291360) ⌝ }
+    ensures { λ r. ⌜ (r ≡ held (loaded (now (s .entry)) .records) (loaded (now (s .entry)) .terms .bidders) p) × (r ≤ 12582720) ⌝ }
 {
     let n = book::bidders(s);
     let mut sum: u32 = 0;
@@ -45,7 +45,7 @@ pub fn sums(s: &[u8]) -> [u32; 8]
 
 // "Standing of a product: held minus target, negative while it is short."
 pub fn standing_of(held: u32, target: u16) -> i32
-    requires { ⌜ held ≤ 10000000 ⌝ }
+    requires { ⌜ held ≤ 20000000 ⌝ }
     ensures { λ r. ⌜ r ≡ standing held target ⌝ }
 {
     held as i32 - target as i32
@@ -65,7 +65,7 @@ pub fn is_above(standing: i32) -> bool
 
 fn standing_by(s: &[u8], held: &[u32; 8], p: usize) -> i32
     requires { ⌜ Summed (now s) (now held) × (p < 8) ⌝ }
-    ensures { λ r. ⌜ (r ≡ standingOf (loaded (now (s .entry))) p) × (aboveZero (standingOf (loaded (now (s .entry))) p) ≤ 6291360) ⌝ }
+    ensures { λ r. ⌜ (r ≡ standingOf (loaded (now (s .entry))) p) × (aboveZero (standingOf (loaded (now (s .entry))) p) ≤ 12582720) ⌝ }
 {
     standing_of(held[p], book::target(s, p).0)
 }
@@ -120,7 +120,7 @@ pub fn above_zero(standing: i32) -> u32
 // "Total excess supply = the standings above zero, summed, plus all f."
 pub fn excess_by(s: &[u8], held: &[u32; 8]) -> u32
     requires { ⌜ Summed (now s) (now held) ⌝ }
-    ensures { λ r. ⌜ (r ≡ excess (loaded (now (s .entry)))) × (r ≤ 52428000) ⌝ }
+    ensures { λ r. ⌜ (r ≡ excess (loaded (now (s .entry)))) × (r ≤ 102758880) ⌝ }
 {
     let m = book::products(s);
     let mut over: u32 = 0;
@@ -142,7 +142,7 @@ pub fn excess_by(s: &[u8], held: &[u32; 8]) -> u32
 
 pub fn excess(s: &[u8]) -> u32
     requires { ⌜ Lent (now s) ⌝ }
-    ensures { λ r. ⌜ (r ≡ excess (loaded (now (s .entry)))) × (r ≤ 52428000) ⌝ }
+    ensures { λ r. ⌜ (r ≡ excess (loaded (now (s .entry)))) × (r ≤ 102758880) ⌝ }
 {
     excess_by(s, &sums(s))
 }

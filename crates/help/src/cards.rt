@@ -12,9 +12,10 @@ pub fn put_read(out: &mut [u8; ANSWER]) -> usize {
       what is on a card; the box is not asked, so nothing says whether the bid would be taken
   words
     N    products of the card, 1 to 8
-    HEX  the card, two hexadecimal digits a byte: 7, 12, 16, 21, 25, 30, 34 or 39 bytes for 1 to 8
-         products
-    The answer is bidder and round, then of each product tranches, withdrawn, exit price, priority.
+    HEX  the card, two hexadecimal digits a byte: 16, 30, 44, 58, 72, 86, 100 or 114 bytes for 1
+         to 8 products
+    The answer is bidder and round, then of each product T LOTS P: tranches, what is withdrawn as
+    COUNT@PRICE,.. or -, and priority (help lots).
   changes
     nothing
   refused
@@ -27,8 +28,8 @@ pub fn put_read(out: &mut [u8; ANSWER]) -> usize {
         out,
         d,
         b"  example, on an issued box
-    > read 4 100104808dde002000000100800000000800000080
-    ok 2 2 9 1 14200 0 4 0 0 2 1 0 0 0 1 0 0 1
+    > read 2 0001008080f000407a800000000000000200000000000000000000000002
+    ok 0 2 1 1@960,1@980 0 2 - 1
 ",
     )
 }
@@ -38,14 +39,14 @@ pub fn put_write(out: &mut [u8; ANSWER]) -> usize {
         out,
         0,
         b"ok
-  write N B R T W X P ..
+  write N B R T LOTS P ..
       a bid as a card in bytes; it is not filed (bid writes a card and files it)
   words
     N   products of the card, 1 to 8
     B   the bidder, 0 to 31
     R   the round, 0 to 4095
-    T W X P of each product: tranches, withdrawn, exit price in the unit, priority; help bid says
-        more. A product that is left out has 0 0 0 0
+    T LOTS P of each product: tranches, what is withdrawn, priority; help bid says more. Lots need
+        not be in order here. A product that is left out has 0 - 0
   changes
     nothing
   refused
@@ -57,8 +58,8 @@ pub fn put_write(out: &mut [u8; ANSWER]) -> usize {
         out,
         c,
         b"  example, on an issued box
-    > write 4 2 2  9 1 14200 0  4 0 0 2  1 0 0 0  1 0 0 1
-    ok 100104808dde002000000100800000000800000080
+    > write 2 0 2  1 1@960,1@980 0  2 - 1
+    ok 0001008080f000407a800000000000000200000000000000000000000002
 ",
     )
 }

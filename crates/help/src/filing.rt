@@ -11,8 +11,8 @@ fn put_letters(out: &mut [u8; ANSWER], at: usize) -> usize {
         b"  letters in its refusals
     of one product: b bid (T), g going before, d denied switches, r retained withdrawals,
     R the reduction from g to b, I the increase, p the going price, q the price before its latest
-    fall, x the exit price (X); of the bidder: f free eligibility, s switched in all (what its
-    increases are above f), w withdrawn in all (its reductions less s), k products increased
+    fall, x the exit price of a lot; of the bidder: f free eligibility, s switched in all (what
+    its increases are above f), w withdrawn in all (its reductions less s), k products increased
 ",
     )
 }
@@ -22,18 +22,18 @@ pub fn put_bid(out: &mut [u8; ANSWER]) -> usize {
         out,
         0,
         b"ok
-  bid B T W X P ..
+  bid B T LOTS P ..
       writes bidder B's card of the present round and files it
   words
     B   the bidder, from 0
-    Then four numbers of each product of the auction, in its order:
-    T   tranches bid at the going price
-    W   withdrawn: of those taken off the product, how many leave the auction for good; the others
-        are switched to products that are increased
-    X   exit price of the withdrawn, the lowest at which the bidder would have served them, in the
-        unit (thousandths of a cent per kWh, or cents per MW-day); 0 where W is 0
-    P   switching priority: 1 for the increased product that matters most, then 2, ..; 0 where the
-        product is not increased, and 0 everywhere where nothing is switched
+    Then of each product of the auction, in its order:
+    T     tranches bid at the going price
+    LOTS  withdrawn: of those taken off the product, how many leave the auction for good and at
+          which exit prices, as COUNT@PRICE,COUNT@PRICE, up to four; - for none (help lots). The
+          others that are taken off are switched to products that are increased
+    P     switching priority: 1 for the increased product that matters most, then 2, ..; 0 where
+          the product is not increased, and 0 everywhere where nothing is switched
+    T W X P is taken too: one lot of W at the exit price X, or 0 0 for none.
 ",
     );
     let b = put(
@@ -60,11 +60,20 @@ pub fn put_bid(out: &mut [u8; ANSWER]) -> usize {
     put(
         out,
         h,
-        b"  example, in round 2 of examples/new-jersey
-    > bid 2  9 1 14200 0  4 0 0 2  1 0 0 0  1 0 0 1
-    ok 100104808dde002000000100800000000800000080
-    Bidder 2 had 10, 3, 3 and 0 tranches. It withdraws one of product 0, which it would have served
-    down to 14.200 cents per kWh, and switches two of product 2: to product 3 first, then product 1.
+        b"  example, on an issued box
+    > open kwh 6 product 4 4 1000  2 2 1000 bidder 6 6 row 0 500
+    ok
+    > bid 0  4 - 0  1 - 0
+    ok 000082000000000000000000000000000100000000000000000000000000
+    > bid 1  4 - 0  1 - 0
+    ok 080082000000000000000000000000000100000000000000000000000000
+    > calculate 0 1
+    ok kept 0 outbid 0
+    > bid 0  1 1@960,1@980 0  2 - 1
+    ok 0001008080f000407a800000000000000200000000000000000000000002
+    The price of product 0 fell to 950. Bidder 0 takes three of its four tranches off: it withdraws
+    one that it would have served down to 0.960 cents per kWh and one down to 0.980, and switches
+    one to product 1.
 ",
     )
 }
@@ -77,8 +86,8 @@ pub fn put_file(out: &mut [u8; ANSWER]) -> usize {
   file HEX
       files a card given as bytes; the card names its bidder and its round
   words
-    HEX  the card, two hexadecimal digits a byte: 7, 12, 16, 21, 25, 30, 34 or 39 bytes for 1 to 8
-         products. read N HEX shows what is on it, write makes one; bid does both at once
+    HEX  the card, two hexadecimal digits a byte: 16, 30, 44, 58, 72, 86, 100 or 114 bytes for 1
+         to 8 products. read N HEX shows what is on it, write makes one; bid does both at once
   changes
     The box: the card is filed. A later card of the bidder in this round takes its place; a refused
     one leaves it. There is no undo: file another card.
@@ -100,10 +109,12 @@ pub fn put_file(out: &mut [u8; ANSWER]) -> usize {
     put(
         out,
         i,
-        b"  example, in round 1 of examples/new-jersey
-    > file 000085000000000800000001800000000800000000
+        b"  example, on an issued box
+    > open kwh 6 product 4 4 1000  2 2 1000 bidder 6 6 row 0 500
     ok
-    The same as bid 0  10 0 0 0  1 0 0 0  3 0 0 0  1 0 0 0
+    > file 000082000000000000000000000000000100000000000000000000000000
+    ok
+    The same as bid 0  4 - 0  1 - 0
 ",
     )
 }
@@ -167,8 +178,8 @@ pub fn put_filed(out: &mut [u8; ANSWER]) -> usize {
       the card that bidder B has filed in this round, in numbers and in words
   words
     B   the bidder, from 0
-    A card is shown as it is typed after bid B: four numbers of each product, tranches, withdrawn,
-    exit price and priority. filed B has bidder and round before them.
+    A card is shown as it is typed after bid B: T LOTS P of each product, tranches, what is
+    withdrawn, priority. filed B has bidder and round before them.
   changes
     nothing
   refused
@@ -183,7 +194,7 @@ pub fn put_filed(out: &mut [u8; ANSWER]) -> usize {
     > filed
     ok 5 of 6
     > filed 2
-    ok 2 7 5 0 0 0 6 1 11901 0 3 0 0 0 0 0 0 0
+    ok 2 7 5 - 0 6 1@11901 0 3 - 0 0 - 0
     > filed 0
     ok not filed
 ",

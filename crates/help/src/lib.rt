@@ -24,8 +24,8 @@ fn put_rounds(out: &mut [u8; ANSWER]) -> usize {
     name product P NAME   the same for a product
     names                 the names that are given
   each round
-    bid B T W X P ..      file bidder B's card of this round: of each product tranches,
-                          withdrawn, exit price and switching priority
+    bid B T LOTS P ..     file bidder B's card of this round: of each product tranches,
+                          what is withdrawn at which exit prices, and switching priority
     file HEX              file a card given as bytes
     count                 how many bidders are still to file
     missing               which bidders are still to file
@@ -58,13 +58,13 @@ pub fn put_all(out: &mut [u8; ANSWER]) -> usize {
     return                return the box: every byte of it becomes zero
   apart from any auction
     read N HEX            a card of N products as a bid
-    write N B R T W X P ..
+    write N B R T LOTS P ..
                           a bid of bidder B in round R as a card of N products
   the desk itself
     bail on, bail off     end at the first line that is not answered ok, or go on
     quit, exit            end
     help, ?               these lines
-  also: help round, help example, help units, help letters, help refusals
+  also: help round, help example, help lots, help units, help letters, help refusals
   answers: ok, done; refused, with its number and why; error, the line is no command.
   Only what is answered ok changes the box. A line that begins with # is a remark.
   help COMMAND says more
@@ -88,6 +88,9 @@ fn put_topic(out: &mut [u8; ANSWER], word: &[u8]) -> usize {
     }
     if same(word, b"example") {
         return topics::put_example(out);
+    }
+    if same(word, b"lots") {
+        return topics::put_lots(out);
     }
     0
 }

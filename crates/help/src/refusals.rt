@@ -77,15 +77,16 @@ pub fn put_rules(out: &mut [u8; ANSWER], at: usize) -> usize {
      9  the product's price has not just fallen, so nothing can be taken off it: bid what is going,
         or more
     10  more is bid in all than is going and free together: bid less
-    11  more is withdrawn than the product is reduced by, or in all not what is reduced less what is
-        switched: withdraw as many as the answer allows
+    11  more is withdrawn, all lots together, than the product is reduced by, or in all not what is
+        reduced less what is switched: withdraw as many as the answer allows
 ",
     );
     put(
         out,
         a,
-        b"    12  an exit price has to be above the going price and at most the price before its latest fall,
-        and 0 where nothing is withdrawn: give one that the answer allows
+        b"    12  the exit price of a lot has to be above the going price, at most the price before its
+        latest fall and above that of the lot before it; used lots come first, and an unused lot has
+        price 0: the answer names the first lot that is wrong, and what it may be (help lots)
     13  where tranches are switched the increased products are numbered 1, 2, .. once each; every
         other priority is 0, and all are where nothing is switched
 ",
@@ -171,8 +172,8 @@ pub fn put_fields(out: &mut [u8; ANSWER], at: usize) -> usize {
     put(
         out,
         at,
-        b"    30  a number is too large for a card: bidder to 31, round to 4095, tranches and withdrawn
-        to 255, exit price to 131071, priority to 7; 0 on products that the card has not
+        b"    30  a number is too large for a card: bidder to 31, round to 4095, tranches and the count of a
+        lot to 255, exit price to 131071, priority to 7; 0 on products that the card has not
 ",
     )
 }

@@ -19,9 +19,9 @@ pub fn put_calculate(out: &mut [u8; ANSWER]) -> usize {
     The answer is ok kept K outbid O: K tranches are kept to fill a target, withdrawals that are
     retained and switches that are denied; O that were kept before are outbid by new tranches.
   default bids
-    Who has not filed bids nothing on each product whose price has just fallen, all withdrawn at
-    the price before that fall, and as before on the others. At a terminal the desk names them and
-    asks first; a script is not asked.
+    Who has not filed bids nothing on each product whose price has just fallen, all withdrawn in
+    one lot at the price before that fall, and as before on the others. At a terminal the desk names
+    them and asks first; a script is not asked.
 ",
     );
     let b = put(
@@ -98,8 +98,9 @@ pub fn put_show(out: &mut [u8; ANSWER]) -> usize {
                  the price fell by a decrement of the manager's
     row          percentage of the target, decrement in basis points
     bidder       eligibility (initial), free, filed (1 where its card is filed); of each product
-                 four numbers: going, denied, retained, and the exit price of the retained
-    card         the card that is filed: of each product tranches, withdrawn, exit price, priority
+                 G D LOTS: going, denied, and what is retained, as COUNT@PRICE,.. or - for none
+    card         the card that is filed, as it is typed: of each product T LOTS P, tranches, what
+                 is withdrawn, priority
   changes
     nothing
   refused
@@ -131,8 +132,8 @@ pub fn put_report(out: &mut [u8; ANSWER]) -> usize {
     The first line has the phase, the range that total excess supply is in (the exact number is not
     told) and the bidder's free eligibility, which it may bid in the next round or loses. Then of
     each product the going price in the unit, and the bidder's tranches: going (at the going price),
-    denied (switches), retained (withdrawals) with their exit price; overridden where the price fell
-    by a decrement of the manager's.
+    denied (switches), retained (withdrawals) as COUNT@PRICE,.. with their exit prices, or - for
+    none; overridden where the price fell by a decrement of the manager's.
   changes
     nothing
   refused
@@ -153,7 +154,7 @@ pub fn put_report(out: &mut [u8; ANSWER]) -> usize {
         b"  example, in round 2 of examples/new-jersey
     > report 0
     ok open excess 31-40 free 0
-      product 0 price 13884 going 10 denied 0 retained 0 exit 0
+      product 0 price 13884 going 10 denied 0 retained -
     > report all
     ok 6
 ",

@@ -24,6 +24,40 @@ pub fn put_units(out: &mut [u8; ANSWER]) -> usize {
     )
 }
 
+pub fn put_lots(out: &mut [u8; ANSWER]) -> usize {
+    let a = put(
+        out,
+        0,
+        b"ok
+  lots
+    What a bidder withdraws from a product is up to four lots, each a count of tranches and the exit
+    price down to which the bidder would have served them.
+  how they are typed
+    COUNT@PRICE     a lot, without spaces: 2@13900 is 2 tranches at 13.900 cents per kWh
+    LOT,LOT,..      two to four lots, joined by commas, the lowest price first: 2@13900,1@14200
+    -               nothing is withdrawn
+    T LOTS P is what a bid has of each product: 7 2@13900,1@14200 0. The older T W X P is taken too,
+    and is one lot: 7 2 13900 0 is 7 2@13900 0, and 7 0 0 0 is 7 - 0. A line may have both.
+",
+    );
+    put(
+        out,
+        a,
+        b"  what is asked of them
+    11  the counts of all lots together are at most what the product is reduced by, and in all what
+        is reduced less what is switched
+    12  each price is above the going price and at most the price before its latest fall; the
+        prices rise from lot to lot; used lots come first (not 3@13900,0@0,2@14200), and a lot
+        without tranches has no price (not 0@13900)
+  what becomes of them
+    Where withdrawals are needed to fill a target, the lowest exit price of all bidders' lots is
+    retained first; of equal ones the earliest in the draw. So of a bidder the first lots are
+    retained, and only the last of them may be in part. New tranches outbid the highest first. What
+    is retained is shown as it is typed.
+",
+    )
+}
+
 pub fn put_letters(out: &mut [u8; ANSWER]) -> usize {
     put(
         out,
@@ -37,7 +71,7 @@ pub fn put_letters(out: &mut [u8; ANSWER]) -> usize {
       r  retained withdrawals: held at their exit price, to fill the target
       R  reduction, g less b where that is above 0
       I  increase, b less g where that is above 0
-      x  exit price of the tranches withdrawn
+      x  exit price of a lot of the tranches withdrawn
     of a bidder
       f  free eligibility: may be bid on any product, in this round only
       s  switches: what its increases in all are above f
@@ -78,9 +112,9 @@ pub fn put_round(out: &mut [u8; ANSWER]) -> usize {
     no result.
   what the calculation does
     Where a product whose price has just fallen would be left short, withdrawals are retained, the
-    lowest exit price first, and then switches denied, the earliest in the draw first. They stay to
-    fill the target until new tranches outbid them: a denied switch is then free eligibility, a
-    retained withdrawal is gone.
+    lowest exit price of all lots first, and then switches denied, the earliest in the draw first.
+    They stay to fill the target until new tranches outbid them: a denied switch is then free
+    eligibility, a retained withdrawal, that of the highest exit price first, is gone.
 ",
     )
 }
@@ -96,26 +130,26 @@ pub fn put_example(out: &mut [u8; ANSWER]) -> usize {
     > open kwh 2 product 2 2 1000 bidder 2 2 row 0 100
     ok
     Round 1. Bidder 0 bids 2 tranches, bidder 1 bids 1: one too many, so the price falls to 990.
-    > bid 0  2 0 0 0
-    ok 00008100000000
+    > bid 0  2 - 0
+    ok 00008100000000000000000000000000
 ",
     );
     let b = put(
         out,
         a,
-        b"    > bid 1  1 0 0 0
-    ok 08008080000000
+        b"    > bid 1  1 - 0
+    ok 08008080000000000000000000000000
     > calculate 1 0
     ok kept 0 outbid 0
     > report 1
     ok open excess 0-20 free 0
-      product 0 price 990 going 1 denied 0 retained 0 exit 0
+      product 0 price 990 going 1 denied 0 retained -
     Round 2, at 990. Bidder 0 keeps 1 tranche and withdraws 1 at 992, bidder 1 withdraws its own at
     995. That would leave the product one short.
-    > bid 0  1 1 992 0
-    ok 0001008080f800
-    > bid 1  0 1 995 0
-    ok 0801000080f8c0
+    > bid 0  1 1@992 0
+    ok 0001008080f800000000000000000000
+    > bid 1  0 1@995 0
+    ok 0801000080f8c0000000000000000000
     > count
     ok 0
 ",

@@ -9,9 +9,11 @@ use lib.ListN.{getD, set, length, length-set}
 use lib.Seq.{getD-set-same, getD-set-other}
 use lib.Dec.{eqb}
 use Rattle.rules.specs.declared.Place.{Place}
-use Rattle.rules.specs.Accept.{placeAt, changed, column, heldOf, leavingOf, movingOf, riseOf, retain, deny, cancel}
+use Rattle.rules.specs.Lots.{firstUsed}
+use Rattle.rules.specs.Accept.{placeAt, changed, column, heldOf, leavingOf, leavingAt, movingOf, riseOf, retain, deny, cancel}
 use Rattle.rules.proofs.Sums.{sum-ge}
 use Rattle.rules.proofs.Places.{column-at, column-beside}
+use Rattle.rules.proofs.LotLaws.{take-total, retain-total}
 use Rattle.table.specs.Room.{Fits, Room}
 use Rattle.table.proofs.Laws.{room-set, column-small}
 use Rattle.keep.specs.Step.{Booked}
@@ -55,8 +57,11 @@ module _ (ps : List Place) (h : List ℕ) (n : ℕ) (B : Booked ps h n) where
 
     pub retain-booked : 0 < leavingOf (placeAt ps (b * 8 + p)) → Booked (changed retain ps (b * 8 + p)) (set h p (getD h p 0 + 1)) n
     retain-booked some =
+        let x = placeAt ps (b * 8 + p) in
         let f = B .room .each (b * 8 + p) in
-        booked-set ps (B .room) n b p lb (B .few) lp (retain (placeAt ps (b * 8 + p))) h (getD h p 0 + 1) B
+        let less = take-total (x .leaving) some in
+        let more = retain-total (x .holds .retained) (firstUsed (x .leaving)) (leavingAt x) in
+        booked-set ps (B .room) n b p lb (B .few) lp (retain x) h (getD h p 0 + 1) B
         (record { outs = omega (arith, f .outs); switches = f .switches; rises = f .rises }) (omega arith)
 
     pub deny-booked : 0 < movingOf (placeAt ps (b * 8 + p)) → Booked (changed deny ps (b * 8 + p)) (set h p (getD h p 0 + 1)) n

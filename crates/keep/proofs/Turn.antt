@@ -58,9 +58,9 @@ module _ (m n : ℕ) (targets ticks order : List ℕ) (ps₀ : List Place) (fuel
     pub same : rest fuel ps count ≡ rest fuel₀ ps₀ 0
     pub book : Booked ps held n
     pub numbers : Numbered ps turns ranks
-    pub some : count + fuel ≤ 33553920
+    pub some : count + fuel ≤ 83884800
 
-  pub turn-start : (held turns ranks : List ℕ) → Booked ps₀ held n → Numbered ps₀ turns ranks → fuel₀ ≤ 33553920
+  pub turn-start : (held turns ranks : List ℕ) → Booked ps₀ held n → Numbered ps₀ turns ranks → fuel₀ ≤ 83884800
       → Turn ps₀ held turns ranks 0 fuel₀
   turn-start held turns ranks B N l = record { same = refl; book = B; numbers = N; some = omega arith }
 

@@ -24,7 +24,7 @@ pub record Booked (ps : List Place) (held : List ℕ) (n : ℕ) : Type 0 where
 pub record Summed (ps : List Place) (held : List ℕ) (n left : ℕ) : Type 0 where
   pub holds : Sums heldOf held ps n
   pub every-left : left ≡ every leftOf ps n
-  pub small : left ≤ 33553920
+  pub small : left ≤ 83884800
 
 abbrev pub shortBy : List ℕ → List ℕ → List ℕ → ℕ → Bool
 shortBy held targets ticks p = isOne ticks p && below (standing (getD held p 0) (targetOn targets p))
@@ -37,7 +37,7 @@ Each R vs ps = (k : ℕ) → k < 256 → R (getD vs k 0) (placeAt ps k)
 abbrev pub turnOf : Place → ℕ
 turnOf l = turnBy (ltb 0 (leavingOf l)) (leavingAt l) (ltb 0 (movingOf l)) 4294967296
 
--- a withdrawal's turn is its exit price, which is below every switch's turn
+-- the turn of withdrawals is the lowest exit price of their lots, which is below every switch's turn
 pub record Timed (v : ℕ) (l : Place) : Type 0 where
   pub turn : v ≡ turnOf l
   pub exit : leavingAt l ≤ 4294967295

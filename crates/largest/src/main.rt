@@ -1,9 +1,15 @@
 // The largest rounds, for counting what a calculation costs (bench/count). Each argument is a letter. A state is chosen by `w`, whose
 // calculation keeps 1,600 withdrawals of bidders who did not file, `s`, which denies 1,400 switches, `o`, which outbids 1,400
-// withdrawals kept the round before, or `r`, which reads the state from standard input. Then `k` calculates it, `c` only counts its
-// cards, which judges the state as every call does, `b` writes its bytes, and `a` those after the calculation.
+// withdrawals kept the round before, or `r`, which reads the state from standard input. With four lots of each bidder on each product: `l`
+// keeps 1,600, `m` outbids 1,400 kept the round before, and `x` outbids 1,600, of a state that stands and that no auction comes to. Then
+// `k` calculates it, `c` only counts its cards, which judges the state as every call does, `b` writes its bytes, and `a` those after the
+// calculation.
 ghost use mathlib.Core.Path.{_≡_};
 ghost use lib.ListN.{length};
+use layout::FREE;
+use layout::PHASE;
+use layout::ROUND;
+use layout::SEAT;
 use layout::STATE;
 use libc::STDIN_FILENO;
 use libc::STDOUT_FILENO;
@@ -14,6 +20,7 @@ use rules::Count;
 use rules::KwhPrice;
 use rules::Line;
 use rules::Lot;
+use rules::Lots;
 use rules::Override;
 use rules::Price;
 use rules::Product;
@@ -53,10 +60,7 @@ fn settings(each: u16) -> Settings {
 fn line(tranches: u16, priority: u8) -> Line {
     Line {
         tranches: Tranches(tranches),
-        withdrawn: Lot {
-            count: Tranches(0),
-            exit: 0,
-        },
+        withdrawn: Lots::none(),
         priority,
     }
 }
@@ -64,9 +68,27 @@ fn line(tranches: u16, priority: u8) -> Line {
 fn withdrawn(count: u16, exit: u32) -> Line {
     Line {
         tranches: Tranches(0),
-        withdrawn: Lot {
-            count: Tranches(count),
-            exit,
+        withdrawn: Lots::single(Tranches(count), exit),
+        priority: 0,
+    }
+}
+
+fn lot(count: u16, exit: u32) -> Lot {
+    Lot {
+        count: Tranches(count),
+        exit,
+    }
+}
+
+// 7 tranches withdrawn in four lots.
+fn in_lots() -> Line {
+    Line {
+        tranches: Tranches(0),
+        withdrawn: Lots {
+            one: lot(2, 9910),
+            two: lot(2, 9930),
+            three: lot(2, 9950),
+            four: lot(1, 9970),
         },
         priority: 0,
     }
@@ -76,7 +98,7 @@ fn withdrawn(count: u16, exit: u32) -> Line {
 fn file_all(state: &mut [u8], round: u16, lines: [Line; 8]) {
     let mut b: u8 = 0;
     while b < 32 {
-        let mut card = [0u8; 39];
+        let mut card = [0u8; 114];
         console::write(&mut card, 8, b, round, lines);
         console::file(state, &card);
         b += 1;
@@ -131,13 +153,20 @@ fn all_switch(state: &mut [u8]) {
     file_all(state, 2, moved);
 }
 
-// Round 3 with 200 withdrawals kept on seven products, and 3,200 tranches bid on the eighth.
-fn all_kept(state: &mut [u8]) {
+// Round 2 with 224 tranches bid on every product, and all of them withdrawn in lots.
+fn all_in_lots(state: &mut [u8]) {
+    opened(state, 112);
+    played(state, 1, [line(7, 0); 8]);
+    file_all(state, 2, [in_lots(); 8]);
+}
+
+// Round 3 with 200 withdrawals kept on seven products, withdrawn as the line says, and 3,200 tranches bid on the eighth.
+fn all_kept(state: &mut [u8], gone: Line) {
     opened(state, 149);
     let mut lines = [line(7, 0); 8];
     lines[7] = line(100, 0);
     played(state, 1, lines);
-    let mut left = [withdrawn(7, 9950); 8];
+    let mut left = [gone; 8];
     left[7] = line(100, 0);
     played(state, 2, left);
 }
@@ -156,9 +185,36 @@ fn moved_back() -> [Line; 8] {
 }
 
 // The same, and 224 tranches are moved from the eighth product to each of the others.
-fn all_outbid(state: &mut [u8]) {
-    all_kept(state);
+fn all_outbid(state: &mut [u8], gone: Line) {
+    all_kept(state, gone);
     file_all(state, 3, moved_back());
+}
+
+// A closed auction is open again, in round 3, and every bidder has 56 tranches free.
+fn open_again(state: &mut [u8]) {
+    if state.len() != STATE {
+        return;
+    }
+    state[PHASE] = 1;
+    state[ROUND + 1] = 3;
+    let mut b: usize = 0;
+    while b < 32 {
+        state[FREE + SEAT * b + 1] = 56;
+        b += 1;
+    }
+}
+
+// Closed in round 2 with 200 withdrawals kept in lots on every product.
+fn all_retained(state: &mut [u8]) {
+    all_in_lots(state);
+    console::calculate(state, &draw(), no_overrides());
+}
+
+// The same in round 3, and 224 tranches are bid on each product from free eligibility.
+fn all_at_once(state: &mut [u8]) {
+    all_retained(state);
+    open_again(state);
+    file_all(state, 3, [line(7, 0); 8]);
 }
 
 fn say(words: &[u8], n: u32) {
@@ -202,7 +258,10 @@ fn choose(state: &mut [u8], letter: u8) {
     match letter {
         b'w' => all_withdraw(state),
         b's' => all_switch(state),
-        b'o' => all_outbid(state),
+        b'o' => all_outbid(state, withdrawn(7, 9950)),
+        b'l' => all_in_lots(state),
+        b'm' => all_outbid(state, in_lots()),
+        b'x' => all_at_once(state),
         b'r' => {
             io::read_full(STDIN_FILENO, state);
         }

@@ -1,8 +1,8 @@
 -- The book that steps 1 to 4 leave. Assumes nothing.
-use mathlib.Core.Path.{_≡_, refl, _∙_, ap}
+use mathlib.Core.Path.{_≡_, refl, sym, _∙_, ap, subst}
 use mathlib.Core.Bool.{Bool, true, false, _&&_, not}
 use mathlib.Core.List.{List}
-use Prim.Native.Nat.{ℕ, _+_, _*_, _-_, _%_, _≤_, _<_}
+use Prim.Native.Nat.{ℕ, _+_, _*_, _%_, _≤_, _<_}
 use native.Mathlib.Omega.{arith}
 use borrow.Author.Tests.{lt-ltb}
 use lib.ListN.{length, replicate, length-replicate, getD-replicate}
@@ -16,7 +16,8 @@ use Rattle.rules.specs.declared.Auction.{Auction}
 use Rattle.rules.specs.Count.{sumUpTo}
 use Rattle.rules.specs.Units.{tranches}
 use Rattle.rules.specs.Settings.{setup, targetOf, capOf}
-use Rattle.rules.specs.Held.{goingIn, deniedIn, retainedIn, exitIn, heldIn, keptIn, held, standing, above, ticked, freeOf}
+use Rattle.rules.specs.Lots.{total, Ordered, ExitsFit, Beginning, AllWithin}
+use Rattle.rules.specs.Held.{goingIn, deniedIn, retainedIn, heldIn, keptIn, held, standing, above, ticked, freeOf}
 use Rattle.rules.specs.Bid.{bidIn, withdrawnIn, reduction, increase, recordOf, priceAt, beforeAt, bidOn}
 use Rattle.rules.specs.Accept.{placeAt, acceptedAll, heldOf, keptOf, movingOf, riseOf, column, rowOf, every}
 use Rattle.rules.specs.Outbid.{outbid, deemedUpTo}
@@ -24,11 +25,12 @@ use Rattle.rules.specs.Round.{drawn, drawFits, afterStep2, afterStep4}
 use Rattle.rules.specs.Legal.{keptOn, isOpen}
 use Rattle.rules.proofs.Sums.{sum-ext, sum-le, sum-six, sum-ge, sum-add, sum-zero}
 use Rattle.rules.proofs.Lists.{clash}
+use Rattle.rules.proofs.LotLaws.{zero-none, none-left, none-exit, beginning-starts, beginning-within, beginning-ordered, within-exits}
 use Rattle.rules.proofs.Signed.{above-true, above-false}
 use Rattle.rules.proofs.Tests.{told}
 use Rattle.rules.proofs.Legal.{first-none}
 use Rattle.rules.specs.Stands.{Stands, Long}
-use Rattle.rules.proofs.Places.{goingOf, deniedOf, retainedOf, exitOf, worthOf}
+use Rattle.rules.proofs.Places.{goingOf, deniedOf, retainedOf, worthOf}
 use Rattle.rules.proofs.Keep.{Moved, Ended, kept-all-ends, kept-met}
 use Rattle.laws.proofs.Outbidding.{freeAt, Deemed, deemed-each, deemed-long, deemed-not, Outed, OutEnded, out-ends}
 use Rattle.laws.proofs.Made.{AllAccepted, Made, Bare, NoRecord, made, made-bare, none-kept, keepable}
@@ -42,10 +44,8 @@ pub record Booked (a : Auction) (o : Outbid) : Type 0 where
   pub kept : (p : ℕ) → p < a .terms .products → 0 < column keptOf (o .places) p (a .terms .bidders)
       → (priceAt a p < beforeAt a p) × (column heldOf (o .places) p (a .terms .bidders) ≡ targetOf (setup a) p)
   pub first : a .round ≡ 1 → (p : ℕ) → p < a .terms .products → column keptOf (o .places) p (a .terms .bidders) ≡ 0
-  pub exits : (b p : ℕ) → b < a .terms .bidders → p < a .terms .products → 0 < retainedOf (placeAt (o .places) (b * 8 + p))
-      → (priceAt a p < exitOf (placeAt (o .places) (b * 8 + p))) × (exitOf (placeAt (o .places) (b * 8 + p)) ≤ beforeAt a p)
-  pub no-exit : (b p : ℕ) → b < a .terms .bidders → p < a .terms .products → retainedOf (placeAt (o .places) (b * 8 + p)) ≡ 0
-      → exitOf (placeAt (o .places) (b * 8 + p)) ≡ 0
+  pub exits : (b p : ℕ) → b < a .terms .bidders → p < a .terms .products
+      → ExitsFit (priceAt a p) (beforeAt a p) (placeAt (o .places) (b * 8 + p) .holds .retained)
   pub caps : (b p : ℕ) → b < a .terms .bidders → p < a .terms .products → heldOf (placeAt (o .places) (b * 8 + p)) ≤ capOf (setup a) p
   pub bare : (b p : ℕ) → b < 32 → p < 8 → (b < a .terms .bidders → a .terms .products ≤ p)
       → NoRecord (placeAt (o .places) (b * 8 + p) .holds)
@@ -70,24 +70,26 @@ pub record Untouched (r : Record) (y : Place) : Type 0 where
   pub going : goingIn r ≤ goingOf y
   pub denied : deniedOf y ≡ deniedIn r
   pub retained : retainedOf y ≡ retainedIn r
-  pub exit : exitOf y ≡ exitIn r
+  pub lots : y .holds .retained ≡ r .retained
 
 untouched : (r : Record) (l : Line) (x y z w : Place) → Trail r l x y z w → goingIn r ≤ bidIn l → Untouched r y
 untouched r l x y z w T h = record {
   going = omega arith;
   denied = omega arith;
   retained = omega arith;
-  exit = T .moved .exit-same (omega arith) ∙ T .made .exit;
+  lots = T .moved .same (omega arith) ∙ T .made .lots;
 }
 
 -- a bare place stays bare through the steps
 bare-on : (x y z w : Place) → Moved x y → Deemed y z → Outed z w → Bare x → NoRecord (w .holds)
-bare-on x y z w M D O B = record {
-  going = omega arith;
-  denied = omega arith;
-  retained = omega arith;
-  exit = O .no-exit (λ e. D .exit ∙ M .exit-same (omega arith) ∙ B .exit) (omega arith);
-}
+bare-on x y z w M D O B =
+    let e = D .lots ∙ M .same (omega arith) ∙ B .lots in
+    record {
+      going = omega arith;
+      denied = omega arith;
+      retained = omega arith;
+      lots = none-left (w .holds .retained) (O .order (subst Ordered (sym e) (none-exit 0 0 .order))) (omega arith);
+    }
 
 module _ (a : Auction) (draw : List ℕ) where
   abbrev m : ℕ
@@ -173,27 +175,45 @@ module _ (a : Auction) (draw : List ℕ) where
       booked-caps : heldOf (placeAt l4 (b * 8 + p)) ≤ capOf (setup a) p
       booked-caps = omega (arith, trail, A b hb .caps p hp, S .caps b p hb hp)
 
-      -- what is retained has an exit price above p and at most q: this bid's where the product ticked, the old one elsewhere
-      booked-exits : (s : Bool) → ticked a p ≡ s → 0 < retainedOf (placeAt l4 (b * 8 + p))
-          → (priceAt a p < exitOf (placeAt l4 (b * 8 + p))) × (exitOf (placeAt l4 (b * 8 + p)) ≤ beforeAt a p)
-      booked-exits true t h =
+      -- where it ticked, what step 2 retains is a beginning of the bid's lots,
+      pub kept-begins : ticked a p ≡ true
+          → Beginning (bidOn a b p .withdrawn) (placeAt (afterStep2 a draw .places) (b * 8 + p) .leaving)
+          (placeAt (afterStep2 a draw .places) (b * 8 + p) .holds .retained)
+      kept-begins t =
           let T = trail in
-          let e = T .outed .exit h ∙ T .deemed .exit ∙ T .moved .exit-new (omega (arith, fresh t)) ∙ T .made .leaves in
-          let x = A b hb .exits p hp (omega (arith, fresh t)) in
-          (omega (arith, x), omega (arith, x))
-      booked-exits false t h =
-          let T = trail in
-          let U = unticked t in
-          let e = T .outed .exit h ∙ T .deemed .exit ∙ U .exit in
-          let x = S .exits b p hb hp (omega arith) in
-          (omega (arith, x), omega (arith, x))
+          T .moved .lots (bidOn a b p .withdrawn)
+          (rw (T .made .leaves, T .made .lots)
+          (beginning-starts (bidOn a b p .withdrawn) (recordOf a b p .retained) (S .exits b p hb hp .order) (omega (arith, fresh t))))
 
-      -- and the exit price is 0 where nothing is
-      booked-no-exit : retainedOf (placeAt l4 (b * 8 + p)) ≡ 0 → exitOf (placeAt l4 (b * 8 + p)) ≡ 0
-      booked-no-exit e =
+      -- and steps 3 and 4 leave it so
+      same-ticked : ticked a p ≡ true → placeAt l4 (b * 8 + p) ≡ placeAt l2 (b * 8 + p)
+      same-ticked t =
+          let z : (b * 8 + p) % 8 ≡ p = omega (arith, hm) in
+          let e = ap (ticked a) z ∙ t in
+          out-end .same (b * 8 + p) e ∙ deemed-not (ticked a) l2 (n * 8) (kept-end .keepable .long) (b * 8 + p) e
+
+      pub booked-begins : ticked a p ≡ true
+          → Beginning (bidOn a b p .withdrawn) (placeAt (afterStep2 a draw .places) (b * 8 + p) .leaving)
+          (placeAt (afterStep4 a draw (afterStep2 a draw .places) .places) (b * 8 + p) .holds .retained)
+      booked-begins t = rw (same-ticked t) (kept-begins t)
+
+      -- where it did not tick, the lots are within the record's
+      pub booked-within : ticked a p ≡ false
+          → AllWithin (recordOf a b p .retained) (placeAt (afterStep4 a draw (afterStep2 a draw .places) .places) (b * 8 + p) .holds .retained)
+      booked-within t =
           let T = trail in
-          T .outed .no-exit (λ z.
-          T .deemed .exit ∙ T .moved .exit-same (omega arith) ∙ T .made .exit ∙ S .no-exit b p hb hp (omega arith)) e
+          subst (λ l. AllWithin l (placeAt l4 (b * 8 + p) .holds .retained)) (T .deemed .lots ∙ unticked t .lots) (T .outed .lots)
+
+      -- what is retained has exit prices above p and at most q: this bid's where the product ticked, the old ones elsewhere
+      booked-exits : (s : Bool) → ticked a p ≡ s → ExitsFit (priceAt a p) (beforeAt a p) (placeAt l4 (b * 8 + p) .holds .retained)
+      booked-exits true t =
+          let E = A b hb .exits p hp in
+          let K = booked-begins t in
+          within-exits _ _ _ _ E (beginning-within _ _ _ K) (beginning-ordered _ _ _ (E .order) K)
+      booked-exits false t =
+          let T = trail in
+          let E = S .exits b p hb hp in
+          within-exits _ _ _ _ E (booked-within t) (T .outed .order (subst Ordered (sym (T .deemed .lots ∙ unticked t .lots)) (E .order)))
 
     -- the filled part of no product falls
     filled-by : (p x : ℕ) → p < m → x ≤ goal p → x ≤ held (a .records) n p → (s : Bool) → ticked a p ≡ s → x ≤ column heldOf l4 p n
@@ -230,7 +250,7 @@ module _ (a : Auction) (draw : List ℕ) where
         let z = first-none a S op r (b * 8 + p) (omega (arith, hm, hn)) in
         let g : goingIn (recordOf a b p) ≡ 0 = search told in
         let d : deniedIn (recordOf a b p) ≡ 0 = search told in
-        let t : retainedIn (recordOf a b p) ≡ 0 = search told in
+        let t = ap total (zero-none (recordOf a b p .retained) (search told)) in
         omega arith in
         let h = sum-ext (λ b. heldIn (recordOf a b p)) (λ b. 0) n no in
         let k = sum-ext (λ b. keptIn (recordOf a b p)) (λ b. 0) n (λ b hb. omega (arith, no b hb)) in
@@ -304,8 +324,7 @@ module _ (a : Auction) (draw : List ℕ) where
       filled = λ p x hp g h. filled-by p x hp g h (ticked a p) refl;
       kept = λ p hp h. kept-by p hp h (ticked a p) refl;
       first = λ r p hp. first-by r p hp (ticked a p) refl;
-      exits = λ b p hb hp h. booked-exits b p hb hp (ticked a p) refl h;
-      no-exit = booked-no-exit;
+      exits = λ b p hb hp. booked-exits b p hb hp (ticked a p) refl;
       caps = booked-caps;
       bare = bare-at;
       worth = booked-worth;

@@ -19,7 +19,8 @@ use Rattle.rules.specs.Count.{sumUpTo}
 use Rattle.rules.specs.Answers.{bidsOpen, stopped}
 use Rattle.rules.specs.Parts.{noLane, withPhase, withLanes, withPrices, withMarks}
 use Rattle.rules.specs.Settings.{setup, withinLimits, itemWithin, targetOf, capOf, startOf, initialOf}
-use Rattle.rules.specs.Held.{goingIn, deniedIn, retainedIn, exitIn, heldIn, keptIn, recordAt, setTo, held, aboveZero, standingOf, freeOf, excess}
+use Rattle.rules.specs.Lots.{total, lotsZero}
+use Rattle.rules.specs.Held.{goingIn, deniedIn, heldIn, keptIn, recordAt, setTo, held, aboveZero, standingOf, freeOf, excess}
 use Rattle.rules.specs.Bid.{recordOf, priceAt, hasFiled}
 use Rattle.rules.specs.Round.{overridesFit, priceNext, markNext, beforeNext, opensAt, stops}
 use Rattle.rules.specs.Cutback.{givenFor, mayCut, revised, cutFrom, reduced, cutBack}
@@ -28,6 +29,7 @@ use Rattle.rules.specs.Stands.{Limits, Long, Stands}
 use Rattle.laws.specs.OneCall.{CutOnly, CutPrice}
 use Rattle.rules.proofs.Sums.{sum-ext, sum-le, sum-six, sum-ge, sum-add, sum-swap, sum-zero}
 use Rattle.rules.proofs.Lists.{clash, both, all-give, list-long}
+use Rattle.rules.proofs.LotLaws.{none-left, none-exit}
 use Rattle.rules.proofs.Signed.{above-zero}
 use Rattle.rules.proofs.Tests.{told, shown}
 use Rattle.rules.proofs.Legal.{limits-take, second-none, later-excess, later-open}
@@ -209,8 +211,7 @@ module _ (a : Auction) (targets caps : List Tranches) where
     zero-set r c e =
         let g : goingIn r ≡ 0 = search told in
         let d : deniedIn r ≡ 0 = search told in
-        let s : retainedIn r ≡ 0 = search told in
-        let x : exitIn r ≡ 0 = search told in
+        let s : lotsZero (r .retained) ≡ true = search told in
         let h : min (goingIn r) c ≡ 0 = omega arith in
         search shown
 
@@ -247,10 +248,10 @@ module _ (a : Auction) (targets caps : List Tranches) where
       no-price = M .none;
       marks = λ p hp h. absurd (let x : ⊥ = omega (arith, M .no-mark p (omega (arith, hm))) in x);
       no-mark = λ p h l. M .no-mark p l;
-      exits = λ b p hb hp h. absurd (let x : ⊥ = omega (arith, none-kept b p hb hp) in x);
-      no-exit = λ b p hb hp e.
-          let q = record-of a targets caps b p (omega (arith, hn)) (omega (arith, hm)) in
-          ap exitIn q ∙ S .no-exit b p hb hp (sym (ap retainedIn q) ∙ e);
+      exits = λ b p hb hp.
+          let q = ap (λ r. r .retained) (record-of a targets caps b p (omega (arith, hn)) (omega (arith, hm))) in
+          let e = q ∙ none-left (recordOf a b p .retained) (S .exits b p hb hp .order) (let k = ap total q in omega (arith, none-kept b p hb hp)) in
+          rw e (none-exit _ _);
       caps = λ b p hb hp.
           let q = ap heldIn (record-of a targets caps b p (omega (arith, hn)) (omega (arith, hm))) in
           let k = ap keptIn (record-of a targets caps b p (omega (arith, hn)) (omega (arith, hm))) in
@@ -374,8 +375,7 @@ module _ (a : Auction) (targets caps : List Tranches) where
           phase = h;
           going = λ b p hb hp. ap goingIn (record-of a targets caps b p hb hp);
           denied = λ b p hb hp. ap deniedIn (record-of a targets caps b p hb hp);
-          retained = λ b p hb hp. ap retainedIn (record-of a targets caps b p hb hp);
-          exit = λ b p hb hp. ap exitIn (record-of a targets caps b p hb hp);
+          retained = λ b p hb hp. ap (λ r. r .retained) (record-of a targets caps b p hb hp);
           moved = row-cut L goingIn (λ r c. omega arith);
           eligible = row-cut L (λ r. goingIn r + deniedIn r) (λ r c. omega arith);
           excess = omega (arith, excess-more);

@@ -1,18 +1,20 @@
 -- The default bid is accepted in every standing open state. Assumes nothing.
 use mathlib.Core.Path.{_≡_, refl, _∙_, ap}
-use mathlib.Core.Bool.{Bool, true, false, not, cond}
+use mathlib.Core.Bool.{Bool, true, false, not}
 use Prim.Native.Nat.{ℕ, _-_, _≤_, _<_}
 use native.Mathlib.Omega.{arith}
-use borrow.Author.Tests.{lt-ltb, le-ltb, eq-eqb}
+use borrow.Author.Tests.{le-ltb, eq-eqb}
 use Rattle.rules.specs.declared.Line.{Line}
 use Rattle.rules.specs.declared.Record.{Record}
 use Rattle.rules.specs.declared.Auction.{Auction}
 use Rattle.rules.specs.Settings.{setup, targetOf, capOf}
+use Rattle.rules.specs.Lots.{ExitsFit}
 use Rattle.rules.specs.Held.{goingIn, held, ticked, freeOf}
-use Rattle.rules.specs.Bid.{bidIn, withdrawnIn, exitOn, reduction, increases, recordOf, priceAt, beforeAt, defaultLine}
+use Rattle.rules.specs.Bid.{bidIn, withdrawnIn, reduction, increases, recordOf, priceAt, beforeAt, defaultLine}
 use Rattle.rules.specs.Legal.{isOpen}
 use Rattle.rules.proofs.Sums.{sum-ext, sum-le, sum-zero}
 use Rattle.rules.proofs.Lists.{all-give, clash}
+use Rattle.rules.proofs.LotLaws.{one-exit, none-exit}
 use Rattle.rules.proofs.Signed.{above-true}
 use Rattle.rules.specs.Stands.{Stands, Accepted}
 
@@ -21,8 +23,7 @@ record Default (tick : Bool) (q : ℕ) (r : Record) (l : Line) : Type 0 where
   bid : bidIn l ≤ goingIn r
   withdrawn : withdrawnIn l ≡ goingIn r - bidIn l
   same : tick ≡ false → bidIn l ≡ goingIn r
-  exit : 0 < withdrawnIn l → (exitOn l ≡ q) × (tick ≡ true)
-  no-exit : withdrawnIn l ≡ 0 → exitOn l ≡ 0
+  exits : (p : ℕ) → (tick ≡ true → p < q) → ExitsFit p q (l .withdrawn)
   priority : l .priority ≡ 0
 
 default-is : (t : Bool) (q : ℕ) (r : Record) → Default t q r (defaultLine t q r)
@@ -30,16 +31,14 @@ default-is true q r = record {
   bid = omega arith;
   withdrawn = omega arith;
   same = λ e. clash refl e;
-  exit = λ h. (ap (λ t. cond t q 0) (lt-ltb 0 (goingIn r) h), refl);
-  no-exit = λ h. ap (λ t. cond t q 0) (le-ltb 0 (goingIn r) (omega arith));
+  exits = λ p h. one-exit p q (goingIn r) q (λ _. (h refl, omega arith));
   priority = refl;
 }
 default-is false q r = record {
   bid = omega arith;
   withdrawn = omega arith;
   same = λ e. refl;
-  exit = λ h. absurd (let x : ⊥ = omega arith in x);
-  no-exit = λ h. refl;
+  exits = λ p h. none-exit p q;
   priority = refl;
 }
 
@@ -64,12 +63,8 @@ module _ (a : Auction) (S : Stands a) (o : isOpen a ≡ true) (b : ℕ) (hb : b 
     total =
         let x = sum-ext (λ p. withdrawnIn (default p)) (λ p. reduction (recordOf a b p) (default p)) (a .terms .products) (λ p h. is p .withdrawn) in
         omega (arith, no-increase);
-    exits = λ p h w.
-        let x = is p .exit w in
-        let f = S .fell p h o (above-true (held (a .records) (a .terms .bidders) p) (targetOf (setup a) p) (x .1)) in
-        let y = x .0 in
-        omega arith;
-    no-exit = λ p h w. is p .no-exit w;
+    exits = λ p h.
+        is p .exits (priceAt a p) (λ t. S .fell p h o (above-true (held (a .records) (a .terms .bidders) p) (targetOf (setup a) p) t));
     numbered = rw (no-increase, le-ltb 0 (0 - freeOf a b) (omega arith))
         (ap not (all-give _ (a .terms .products) (λ p h. eq-eqb _ _ (is p .priority))));
   }

@@ -94,7 +94,6 @@ module _ (a : Auction) (S : Stands a) (L : Long a) (o : isOpen a ≡ true) (b : 
     marks = S .marks;
     no-mark = S .no-mark;
     exits = S .exits;
-    no-exit = S .no-exit;
     caps = S .caps;
     no-bidder = S .no-bidder;
     no-product = S .no-product;

@@ -1,5 +1,5 @@
 -- The places that the accepted bids of a standing auction make: step 1. Assumes nothing.
-use mathlib.Core.Path.{_≡_, refl, sym, _∙_, ap₂, subst}
+use mathlib.Core.Path.{_≡_, refl, sym, _∙_, ap, ap₂, subst}
 use mathlib.Core.Bool.{Bool, true, false, _&&_, cond}
 use Prim.Native.Nat.{ℕ, _+_, _*_, _-_, _/_, _%_, _≤_, _<_}
 use native.Mathlib.Omega.{arith}
@@ -11,16 +11,18 @@ use Rattle.rules.specs.declared.Record.{Record}
 use Rattle.rules.specs.declared.Place.{Place}
 use Rattle.rules.specs.declared.Auction.{Auction}
 use Rattle.rules.specs.Settings.{setup, targetOf, capOf}
+use Rattle.rules.specs.Lots.{noLots, total, lotsZero}
 use Rattle.rules.specs.Card.{noLine, lineZero}
-use Rattle.rules.specs.Held.{goingIn, deniedIn, retainedIn, exitIn, heldIn, held, ticked, freeOf}
-use Rattle.rules.specs.Bid.{bidIn, withdrawnIn, exitOn, reduction, increase, recordOf, priceAt, beforeAt, onProduct, judged, hasFiled, slotOf, defaultLine, bidOn}
-use Rattle.rules.specs.Accept.{nowhere, placeAt, accepted, acceptedAll, heldOf, keptOf, leftOf, leavingOf, leavingAt, movingOf, riseOf, column, rowOf}
+use Rattle.rules.specs.Held.{goingIn, deniedIn, retainedIn, heldIn, held, ticked, freeOf}
+use Rattle.rules.specs.Bid.{bidIn, withdrawnIn, reduction, increase, recordOf, priceAt, beforeAt, onProduct, judged, hasFiled, slotOf, defaultLine, bidOn}
+use Rattle.rules.specs.Accept.{nowhere, placeAt, accepted, acceptedAll, heldOf, keptOf, leftOf, leavingOf, movingOf, riseOf, column, rowOf}
 use Rattle.rules.specs.Legal.{keptOn, recordZero, zeroFrom}
 use Rattle.rules.proofs.Sums.{sum-ext, sum-six, sum-zero, and-left, and-right}
 use Rattle.rules.proofs.Lists.{all-take, list-at, list-long}
+use Rattle.rules.proofs.LotLaws.{one-total, zero-none}
 use Rattle.rules.proofs.Signed.{above-true}
 use Rattle.rules.specs.Stands.{Stands, Accepted}
-use Rattle.rules.proofs.Places.{goingOf, deniedOf, retainedOf, exitOf}
+use Rattle.rules.proofs.Places.{goingOf, deniedOf, retainedOf}
 use Rattle.rules.specs.Keep.{Keepable}
 
 -- every bid of the round, a card's or the default, is one that 8 to 13 accept
@@ -34,9 +36,9 @@ pub record Made (r : Record) (l : Line) (x : Place) : Type 0 where
   pub going : goingOf x ≡ bidIn l
   pub denied : deniedOf x ≡ deniedIn r
   pub retained : retainedOf x ≡ retainedIn r
-  pub exit : exitOf x ≡ exitIn r
+  pub lots : x .holds .retained ≡ r .retained
   pub leaving : leavingOf x ≡ withdrawnIn l
-  pub leaves : leavingAt x ≡ exitOn l
+  pub leaves : x .leaving ≡ l .withdrawn
   pub moving : movingOf x ≡ goingIn r - bidIn l - withdrawnIn l
   pub rise : riseOf x ≡ bidIn l - goingIn r
 
@@ -45,7 +47,7 @@ pub record Bare (x : Place) : Type 0 where
   pub going : goingOf x ≡ 0
   pub denied : deniedOf x ≡ 0
   pub retained : retainedOf x ≡ 0
-  pub exit : exitOf x ≡ 0
+  pub lots : x .holds .retained ≡ noLots
   pub leaving : leavingOf x ≡ 0
   pub moving : movingOf x ≡ 0
   pub rise : riseOf x ≡ 0
@@ -55,7 +57,7 @@ pub record NoRecord (r : Record) : Type 0 where
   pub going : goingIn r ≡ 0
   pub denied : deniedIn r ≡ 0
   pub retained : retainedIn r ≡ 0
-  pub exit : exitIn r ≡ 0
+  pub lots : r .retained ≡ noLots
 
 -- a record that is 0, as facts
 pub zero-record : (r : Record) → recordZero r ≡ true → NoRecord r
@@ -64,8 +66,8 @@ zero-record r e =
     let g = and-right (eqb (deniedIn r) 0) _ f in record {
       going = eqb-true _ _ (and-left (eqb (goingIn r) 0) _ e);
       denied = eqb-true _ _ (and-left (eqb (deniedIn r) 0) _ f);
-      retained = eqb-true _ _ (and-left (eqb (retainedIn r) 0) _ g);
-      exit = eqb-true _ _ (and-right (eqb (retainedIn r) 0) _ g);
+      retained = ap total (zero-none (r .retained) g);
+      lots = zero-none (r .retained) g;
     }
 
 -- a bid of nothing
@@ -76,11 +78,11 @@ record NoBid (l : Line) : Type 0 where
 zero-line : (l : Line) → lineZero l ≡ true → NoBid l
 zero-line l e = record {
   bid = eqb-true _ _ (and-left (eqb (bidIn l) 0) _ e);
-  withdrawn = eqb-true _ _ (and-left (eqb (withdrawnIn l) 0) _ (and-right (eqb (bidIn l) 0) _ e));
+  withdrawn = ap total (zero-none (l .withdrawn) (and-left (lotsZero (l .withdrawn)) _ (and-right (eqb (bidIn l) 0) _ e)));
 }
 
 default-none : (t : Bool) (q : ℕ) (r : Record) → goingIn r ≡ 0 → NoBid (defaultLine t q r)
-default-none true q r e = record { bid = refl; withdrawn = e }
+default-none true q r e = record { bid = refl; withdrawn = one-total (goingIn r) q ∙ e }
 default-none false q r e = record { bid = e; withdrawn = refl }
 
 module _ (a : Auction) where
@@ -106,7 +108,7 @@ module _ (a : Auction) where
   pub made : (b p : ℕ) → b < 32 → p < 8 → Made (recordOf a b p) (bidOn a b p) (placeAt (acceptedAll a) (b * 8 + p))
   made b p hb hp =
       subst (Made (recordOf a b p) (bidOn a b p)) (sym (at-is b p hb hp))
-      (record { going = refl; denied = refl; retained = refl; exit = refl; leaving = refl; leaves = refl; moving = refl; rise = refl })
+      (record { going = refl; denied = refl; retained = refl; lots = refl; leaving = refl; leaves = refl; moving = refl; rise = refl })
 
   made-long : length (acceptedAll a) ≡ 256
   made-long = list-long byNumber 256
@@ -147,7 +149,19 @@ module _ (a : Auction) where
     -- so that every place there is bare
     pub made-bare : (b p : ℕ) → b < 32 → p < 8 → (b < a .terms .bidders → a .terms .products ≤ p)
         → Bare (placeAt (acceptedAll a) (b * 8 + p))
-    made-bare b p hb hp out = omega (arith, made b p hb hp, no-record b p hb hp out, no-bid b p hb hp out)
+    made-bare b p hb hp out =
+        let M = made b p hb hp in
+        let N = no-record b p hb hp out in
+        let B = no-bid b p hb hp out in
+        record {
+          going = omega arith;
+          denied = omega arith;
+          retained = omega arith;
+          lots = M .lots ∙ N .lots;
+          leaving = omega arith;
+          moving = omega arith;
+          rise = omega arith;
+        }
 
     -- nothing is kept where the product ticked
     pub none-kept : (p : ℕ) → p < a .terms .products → ticked a p ≡ true → keptOn a p ≡ 0

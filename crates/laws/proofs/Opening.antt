@@ -13,13 +13,14 @@ use Rattle.rules.specs.Units.{tranches}
 use Rattle.rules.specs.Parts.{lane, noLane, laneAt, seat, noSeat, seatAt}
 use Rattle.rules.specs.Settings.{noItem, itemIn, setup, withinLimits, targetOf, capOf, startOf, initialOf}
 use Rattle.rules.specs.Card.{noLine}
-use Rattle.rules.specs.Held.{nothing, retainedIn, heldIn, keptIn, recordAt, held, place, freeOf}
+use Rattle.rules.specs.Held.{nothing, heldIn, keptIn, recordAt, held, place, freeOf}
 use Rattle.rules.specs.Bid.{recordOf, priceAt, beforeAt, markAt, onProduct, hasFiled, slotOf}
 use Rattle.rules.specs.Legal.{keptOn, slotStands, phaseStands}
 use Rattle.rules.specs.Calls.{opened}
 use Rattle.rules.proofs.Sums.{sum-ext, sum-zero}
 use Rattle.rules.proofs.Lists.{both, all-give, list-at, list-is, list-long}
 use Rattle.rules.specs.Stands.{Long, Stands}
+use Rattle.rules.proofs.LotLaws.{none-exit}
 use Rattle.rules.proofs.Parts.{initial-is}
 use Rattle.rules.proofs.Legal.{limits-take}
 
@@ -114,8 +115,7 @@ module _ (t : Setup) (w : withinLimits t ≡ true) (i : length (t .item) ≡ 8) 
         no-price = λ p h l. omega (arith, L .no-item p h l, at-start p l, before-start p l);
         marks = λ p h k. absurd (let z : ⊥ = omega (arith, opened-unmarked t p (omega (arith, L .products))) in z);
         no-mark = λ p h l. opened-unmarked t p l;
-        exits = λ b p hb hp h. let e : retainedIn (recordOf (opened t) b p) ≡ 0 = ap retainedIn (no-record (place b p)) in omega arith;
-        no-exit = λ b p hb hp h. rw (no-record (place b p)) refl;
+        exits = λ b p hb hp. rw (no-record (place b p)) (none-exit _ _);
         caps = λ b p hb hp. rw (no-record (place b p)) (omega arith);
         no-bidder = λ k l h. rw (no-record k) refl;
         no-product = λ k l h. rw (no-record k) refl;

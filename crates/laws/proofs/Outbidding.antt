@@ -2,9 +2,9 @@
 use mathlib.Core.Path.{_≡_, refl, sym, _∙_, ap, subst}
 use mathlib.Core.Bool.{Bool, true, false, _&&_, not, cond}
 use mathlib.Core.List.{List}
-use Prim.Native.Nat.{ℕ, zero, suc, _+_, _*_, _-_, _%_, _≤_, _<_}
+use Prim.Native.Nat.{ℕ, zero, suc, _+_, _*_, _%_, _≤_, _<_}
 use native.Mathlib.Omega.{arith}
-use borrow.Author.Tests.{eqb-true, eqb-false, ltb-true, ltb-false, lt-ltb, le-ltb, not-true}
+use borrow.Author.Tests.{eqb-true, eqb-false, ltb-true, ltb-false, not-true}
 use lib.ListN.{length, getD, length-set}
 use lib.Seq.{getD-set-same, getD-set-other}
 use lib.Dec.{eqb, ltb}
@@ -15,13 +15,15 @@ use Rattle.rules.specs.declared.Place.{Place}
 use Rattle.rules.specs.declared.Outbid.{Outbid}
 use Rattle.rules.specs.Count.{sumUpTo, firstUpTo, never}
 use Rattle.rules.specs.Units.{tranches}
+use Rattle.rules.specs.Lots.{Ordered, AllWithin}
 use Rattle.rules.specs.Held.{standing, above}
 use Rattle.rules.specs.Accept.{placeAt, changed, heldOf, keptOf, riseOf, deem, outbidSwitch, outbidWithdrawal, column, rowOf, every}
 use Rattle.rules.specs.Outbid.{outbid, freed, deemIf, deemedUpTo, over, deniedOne, retainedOne, outbidRetained, outbidBy, outbidStep, whileOver, outbidLoop}
 use Rattle.rules.proofs.Sums.{sum-ge, sum-pos, sum-one, and-left, and-right, best-found, best-none}
 use Rattle.rules.proofs.Lists.{clash}
+use Rattle.rules.proofs.LotLaws.{outbid-total, outbid-less, outbid-within, outbid-ordered, within-refl, within-trans}
 use Rattle.rules.proofs.Signed.{above-true}
-use Rattle.rules.proofs.Places.{goingOf, deniedOf, retainedOf, exitOf, worthOf, each, column-at, column-beside, row-at, row-beside, every-at, row-flat}
+use Rattle.rules.proofs.Places.{goingOf, deniedOf, retainedOf, worthOf, place-other, each, column-at, column-beside, row-at, row-beside, every-at, row-flat}
 
 -- bidder b's entry in a list of free eligibilities
 abbrev pub freeAt : List Tranches → ℕ → ℕ
@@ -32,14 +34,14 @@ pub record Deemed (x y : Place) : Type 0 where
   pub worth : worthOf y ≡ worthOf x
   pub retained : retainedOf y ≡ retainedOf x
   pub going : goingOf x ≤ goingOf y
-  pub exit : exitOf y ≡ exitOf x
+  pub lots : y .holds .retained ≡ x .holds .retained
 
 pub deemed-refl : (x : Place) → Deemed x x
-deemed-refl x = omega arith
+deemed-refl x = record { worth = refl; retained = refl; going = omega arith; lots = refl }
 
 deem-by : (t : Bool) (l : Place) → Deemed l (cond t (deem l) l)
-deem-by true l = omega arith
-deem-by false l = omega arith
+deem-by true l = record { worth = omega arith; retained = refl; going = omega arith; lots = refl }
+deem-by false l = deemed-refl l
 
 -- step 3 looks at each of the first k places once
 module _ (tick : ℕ → Bool) (ps : List Place) where
@@ -90,33 +92,34 @@ pub record Outed (x y : Place) : Type 0 where
   pub going : goingOf y ≡ goingOf x
   pub denied : deniedOf y ≤ deniedOf x
   pub retained : retainedOf y ≤ retainedOf x
-  pub exit : 0 < retainedOf y → exitOf y ≡ exitOf x
-  pub no-exit : (retainedOf x ≡ 0 → exitOf x ≡ 0) → retainedOf y ≡ 0 → exitOf y ≡ 0
+  pub lots : AllWithin (x .holds .retained) (y .holds .retained)
+  pub order : Ordered (x .holds .retained) → Ordered (y .holds .retained)
 
 -- no step, one after another, and the two kinds
 pub outed-refl : (x : Place) → Outed x x
-outed-refl x = record { going = refl; denied = omega arith; retained = omega arith; exit = λ h. refl; no-exit = λ f e. f e }
+outed-refl x =
+    record { going = refl; denied = omega arith; retained = omega arith; lots = within-refl (x .holds .retained); order = λ o. o }
 
 pub outed-trans : (x y z : Place) → Outed x y → Outed y z → Outed x z
 outed-trans x y z f g = record {
   going = omega arith;
   denied = omega arith;
   retained = omega arith;
-  exit = λ h. g .exit h ∙ f .exit (omega arith);
-  no-exit = λ k e. g .no-exit (f .no-exit k) e;
+  lots = within-trans _ _ _ (f .lots) (g .lots);
+  order = λ o. g .order (f .order o);
 }
 
 outed-switch : (x : Place) → Outed x (outbidSwitch x)
 outed-switch x =
-    record { going = refl; denied = omega arith; retained = omega arith; exit = λ h. refl; no-exit = λ f e. f e }
+    record { going = refl; denied = omega arith; retained = omega arith; lots = within-refl (x .holds .retained); order = λ o. o }
 
 outed-withdrawal : (x : Place) → Outed x (outbidWithdrawal x)
 outed-withdrawal x = record {
   going = refl;
   denied = omega arith;
-  retained = omega arith;
-  exit = λ h. ap (λ t. cond t (exitOf x) 0) (lt-ltb 1 (retainedOf x) (omega arith));
-  no-exit = λ f e. ap (λ t. cond t (exitOf x) 0) (le-ltb 1 (retainedOf x) (omega arith));
+  retained = outbid-less (x .holds .retained);
+  lots = outbid-within (x .holds .retained);
+  order = outbid-ordered (x .holds .retained);
 }
 
 -- the kept tranches on the products that did not tick
@@ -128,6 +131,7 @@ pub record OutStepped (m n p : ℕ) (s s′ : Outbid) : Type 0 where
   pub long : length (s′ .places) ≡ length (s .places)
   pub long-free : length (s′ .free) ≡ length (s .free)
   pub outed : (j : ℕ) → Outed (placeAt (s .places) j) (placeAt (s′ .places) j)
+  pub others : (j : ℕ) → (j % 8 ≡ p → ⊥) → placeAt (s′ .places) j ≡ placeAt (s .places) j
   pub here : column heldOf (s′ .places) p n + 1 ≡ column heldOf (s .places) p n
   pub there : (q : ℕ) → q < m → (q ≡ p → ⊥) → column heldOf (s′ .places) q n ≡ column heldOf (s .places) q n
   pub kept-here : column keptOf (s′ .places) p n + 1 ≡ column keptOf (s .places) p n
@@ -149,11 +153,12 @@ module _ (m n : ℕ) (hm : m ≤ 8) (s : Outbid) (b p : ℕ) (hb : b < n) (hp : 
     long = length-set ps (b * 8 + p) _;
     long-free = lf;
     outed = each outbidWithdrawal ps (b * 8 + p) long Outed outed-refl (outed-withdrawal _);
-    here = let x = column-at outbidWithdrawal ps b p long heldOf n hb in omega arith;
+    others = λ j d. place-other outbidWithdrawal ps (b * 8 + p) long j (λ e. d (omega arith));
+    here = let x = column-at outbidWithdrawal ps b p long heldOf n hb in omega (arith, outbid-total (placeAt ps (b * 8 + p) .holds .retained) h);
     there = λ q l d. column-beside outbidWithdrawal ps b p long heldOf q n (omega arith) (omega arith) d;
-    kept-here = let x = column-at outbidWithdrawal ps b p long keptOf n hb in omega arith;
+    kept-here = let x = column-at outbidWithdrawal ps b p long keptOf n hb in omega (arith, outbid-total (placeAt ps (b * 8 + p) .holds .retained) h);
     kept-there = λ q l d. column-beside outbidWithdrawal ps b p long keptOf q n (omega arith) (omega arith) d;
-    fuel = let x = every-at outbidWithdrawal ps b p long keptOf n hb (omega arith) in omega arith;
+    fuel = let x = every-at outbidWithdrawal ps b p long keptOf n hb (omega arith) in omega (arith, outbid-total (placeAt ps (b * 8 + p) .holds .retained) h);
     steps = ek;
     worth = λ c. let x = row-flat outbidWithdrawal ps b p long worthOf refl c m in omega (arith, free-same c);
   }
@@ -178,6 +183,7 @@ module _ (m n : ℕ) (hm : m ≤ 8) (s : Outbid) (b p : ℕ) (hb : b < n) (hp : 
       long = length-set ps (b * 8 + p) _;
       long-free = length-set (s .free) b _;
       outed = each outbidSwitch ps (b * 8 + p) long Outed outed-refl (outed-switch _);
+      others = λ j d. place-other outbidSwitch ps (b * 8 + p) long j (λ e. d (omega arith));
       here = let x = column-at outbidSwitch ps b p long heldOf n hb in omega arith;
       there = λ q l d. column-beside outbidSwitch ps b p long heldOf q n (omega arith) (omega arith) d;
       kept-here = let x = column-at outbidSwitch ps b p long keptOf n hb in omega arith;
@@ -192,6 +198,7 @@ pub record OutEnded (m n : ℕ) (target : ℕ → ℕ) (tick : ℕ → Bool) (s 
   pub long : length (s′ .places) ≡ length (s .places)
   pub long-free : length (s′ .free) ≡ length (s .free)
   pub outed : (j : ℕ) → Outed (placeAt (s .places) j) (placeAt (s′ .places) j)
+  pub same : (j : ℕ) → tick (j % 8) ≡ true → placeAt (s′ .places) j ≡ placeAt (s .places) j
   pub none : (p : ℕ) → p < m → over n target tick (s′ .places) p ≡ false
   pub floor : (p x : ℕ) → p < m → x ≤ target p → x ≤ column heldOf (s .places) p n → x ≤ column heldOf (s′ .places) p n
   pub still : (p : ℕ) → p < m → tick p ≡ true → column heldOf (s′ .places) p n ≡ column heldOf (s .places) p n
@@ -246,6 +253,7 @@ module _ (m n : ℕ) (target : ℕ → ℕ) (tick : ℕ → Bool) (draw : ℕ �
     long = refl;
     long-free = refl;
     outed = λ j. outed-refl (placeAt (s .places) j);
+    same = λ j t. refl;
     none = h;
     floor = λ p x lp a b. b;
     still = λ p lp t. refl;
@@ -281,6 +289,7 @@ module _ (m n : ℕ) (target : ℕ → ℕ) (tick : ℕ → Bool) (draw : ℕ �
       long = E .long ∙ S .long;
       long-free = E .long-free ∙ S .long-free;
       outed = λ j. outed-trans _ _ _ (S .outed j) (E .outed j);
+      same = λ j t. E .same j t ∙ S .others j (apart (j % 8) t);
       none = E .none;
       floor = λ q x lq a h. E .floor q x lq a (floor-by q x lq a h (eqb q p) refl);
       still = λ q lq tq. E .still q lq tq ∙ S .there q lq (apart q tq);

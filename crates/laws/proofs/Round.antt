@@ -21,12 +21,13 @@ use Rattle.rules.specs.Round.{drawFits, overrideFor, overridesFit, afterStep2, 
 use Rattle.rules.specs.Legal.{keptOn, isOpen}
 use Rattle.laws.specs.Counted.{keptWhereTicked, deemedAt, CountsOutbid}
 use Rattle.rules.proofs.Sums.{sum-ext, sum-six, sum-zero}
+use Rattle.rules.proofs.LotLaws.{beginning-within}
 use Rattle.rules.specs.Stands.{Stands, Long}
 use Rattle.rules.proofs.Places.{goingOf}
 use Rattle.laws.proofs.Outbidding.{deemed-exact}
 use Rattle.laws.proofs.Made.{AllAccepted, made-none}
-use Rattle.laws.proofs.Booked.{Booked, kept-end, out-end, trail, unticked, kept-ticked, booked}
-use Rattle.laws.specs.OneCall.{PriceAfter, PriceBy}
+use Rattle.laws.proofs.Booked.{Booked, kept-end, out-end, trail, unticked, booked-begins, booked-within, kept-ticked, booked}
+use Rattle.laws.specs.OneCall.{PriceAfter, PriceBy, LotsAfter}
 use Rattle.laws.proofs.Settled.{Closes, settled-stands, settled-long, settled-prices, settled-by-whom, settled-closes, settled-setup, settled-held, settled-kept, settled-record, settled-eligibility}
 
 module _ (a : Auction) (draw : List ℕ) (os : List Chosen) (S : Stands a) (L : Long a) (op : isOpen a ≡ true)
@@ -75,6 +76,18 @@ module _ (a : Auction) (draw : List ℕ) (os : List Chosen) (S : Stands a) (L : 
   pub round-by : (p : ℕ) → p < a .terms .products → PriceBy a (calculated a draw os .auction) (overrideFor os p) p
   unfolding calculated
   round-by p hp = settled-by-whom a os _ S B O p hp
+
+  -- what is retained is of the lots of this bid where the product ticked, and of those that stood elsewhere
+  pub round-lots : (b p : ℕ) → b < a .terms .bidders → p < a .terms .products → LotsAfter a draw (calculated a draw os .auction) b p
+  unfolding calculated
+  round-lots b p hb hp =
+      let e = settled-record a os _ S B O b p hb hp in
+      record {
+        beginning = λ t. rw e (booked-begins a draw S L op D A b p hb hp t);
+        of-the-bid = λ t. rw e (beginning-within _ _ _ (booked-begins a draw S L op D A b p hb hp t));
+        of-the-record = λ t. rw e (booked-within a draw S L op D A b p hb hp t);
+        ordered = rw e (B .exits b p hb hp .order);
+      }
 
   -- ---- the two counts
 

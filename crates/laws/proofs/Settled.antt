@@ -19,7 +19,8 @@ use Rattle.rules.specs.Units.{tranches}
 use Rattle.rules.specs.Parts.{noLane, withPhase, withRound, withLanes, withPrices, withMarks}
 use Rattle.rules.specs.Settings.{setup, targetOf, capOf, startOf, initialOf}
 use Rattle.rules.specs.Card.{noLine, lineZero}
-use Rattle.rules.specs.Held.{nothing, goingIn, deniedIn, retainedIn, exitIn, heldIn, keptIn, recordAt, held, aboveZero, standingOf, freeOf, eligibility, excess}
+use Rattle.rules.specs.Lots.{lotsZero, ExitsFit}
+use Rattle.rules.specs.Held.{nothing, goingIn, deniedIn, retainedIn, heldIn, keptIn, recordAt, held, aboveZero, standingOf, freeOf, eligibility, excess}
 use Rattle.rules.specs.Bid.{oneIf, bidIn, recordOf, priceAt, beforeAt, onProduct, slotOf, bidOn}
 use Rattle.rules.specs.Price.{decrementFor, fallen, isGiven, decrementBy}
 use Rattle.rules.specs.Accept.{placeAt, heldOf, keptOf, column, rowOf}
@@ -27,6 +28,7 @@ use Rattle.rules.specs.Round.{overrideFor, overridesFit, booked, atRest, priceN
 use Rattle.rules.specs.Legal.{keptOn, recordZero, slotStands, phaseStands}
 use Rattle.rules.proofs.Sums.{sum-ext, sum-le, sum-ge, sum-add, sum-zero}
 use Rattle.rules.proofs.Lists.{clash, both, all-give, list-at, list-long}
+use Rattle.rules.proofs.LotLaws.{none-left, none-exit}
 use Rattle.rules.proofs.Signed.{above-zero}
 use Rattle.rules.proofs.Legal.{later-open}
 use Rattle.rules.specs.Stands.{Stands, Long}
@@ -48,7 +50,7 @@ pub record Closes (a z : Auction) : Type 0 where
 -- a record that holds nothing is 0
 zero-back : (r : Record) → NoRecord r → recordZero r ≡ true
 zero-back r N =
-    both (eq-eqb _ _ (N .going)) (both (eq-eqb _ _ (N .denied)) (both (eq-eqb _ _ (N .retained)) (eq-eqb _ _ (N .exit))))
+    both (eq-eqb _ _ (N .going)) (both (eq-eqb _ _ (N .denied)) (ap lotsZero (N .lots)))
 
 module _ (a : Auction) (os : List Chosen) (o : Outbid) where
   abbrev m : ℕ
@@ -184,18 +186,19 @@ module _ (a : Auction) (os : List Chosen) (o : Outbid) where
       phase : phaseStands (with ph rd ls) ≡ true
 
     module _ (ph rd : ℕ) (ls : List Lane) (M : Meets ph rd ls) where
-      -- the exit prices are those of the book, at prices that have not moved
-      exits-of : (b p : ℕ) → b < n → p < m → 0 < retainedIn (recordOf rest b p)
-          → (price ls p < exitIn (recordOf rest b p)) × (exitIn (recordOf rest b p) ≤ before ls p)
-      exits-of b p hb hp h =
-          let e = at b p hb hp in
-          let r = ap retainedIn e in
-          let x = ap exitIn e in
-          let w = B .exits b p hb hp (omega arith) in
-          let g = sum-ge (λ b. keptOf (placeAt (o .places) (b * 8 + p))) n b hb in
-          let k = B .kept p hp (omega arith) in
-          let v = M .same p hp (held-is p hp ∙ k .1) in
-          (omega (arith, w, v), omega (arith, w, v))
+      -- the lots are those of the book, at prices that have not moved where something is retained
+      exits-of : (b p : ℕ) → b < n → p < m → ExitsFit (price ls p) (before ls p) (recordOf rest b p .retained)
+      exits-of b p hb hp = rw (at b p hb hp) (by (ltb 0 (retainedIn (placeAt (o .places) (b * 8 + p) .holds))) refl)
+        where
+          by : (s : Bool) → ltb 0 (retainedIn (placeAt (o .places) (b * 8 + p) .holds)) ≡ s
+              → ExitsFit (price ls p) (before ls p) (placeAt (o .places) (b * 8 + p) .holds .retained)
+          by true e =
+              let l = ltb-true 0 (retainedIn (placeAt (o .places) (b * 8 + p) .holds)) e in
+              let g = sum-ge (λ b. keptOf (placeAt (o .places) (b * 8 + p))) n b hb in
+              let k = B .kept p hp (omega arith) in
+              let v = M .same p hp (held-is p hp ∙ k .1) in
+              rw (v .0, v .1) (B .exits b p hb hp)
+          by false e = rw (none-left _ (B .exits b p hb hp .order) (ltb-false 0 _ e)) (none-exit _ _)
 
       target : (p : ℕ) → targetOf (setup (with ph rd ls)) p ≡ goal p
       target p = ap (λ t. targetOf t p) (M .settings)
@@ -217,9 +220,6 @@ module _ (a : Auction) (os : List Chosen) (o : Outbid) where
         marks = λ p hp h. let x = M .marks p hp h in (x .0, x .1, x .2, omega (arith, x .3, target p));
         no-mark = M .no-mark;
         exits = exits-of;
-        no-exit = λ b p hb hp e.
-            let q = at b p hb hp in
-            ap exitIn q ∙ B .no-exit b p hb hp (sym (ap retainedIn q) ∙ e);
         caps = λ b p hb hp. omega (arith, ap heldIn (at b p hb hp), B .caps b p hb hp, ap (λ t. capOf t p) (M .settings));
         no-bidder = λ k hk h. zero-back _ (bare k hk (λ l. absurd (let z : ⊥ = omega arith in z)));
         no-product = λ k hk h. zero-back _ (bare k hk (λ l. h));

@@ -9,10 +9,11 @@ use borrow.Author.Tests.{ltb-true, ltb-false, le-ltb}
 use lib.ListN.{getD}
 use lib.Dec.{ltb}
 use Rattle.rules.specs.declared.Auction.{Auction}
+use Rattle.rules.specs.Lots.{lotZero, lotsZero}
 use Rattle.rules.specs.Card.{noLine, lineZero}
 use Rattle.rules.specs.Held.{place, recordAt}
 use Rattle.rules.specs.Bid.{onProduct, hasFiled, slotOf}
-use Rattle.rules.specs.Layout.{read1, read2, read3, recordFrom, lineFrom, loaded, productWidth, bidderWidth, rowWidth, recordWidth, lineWidth, productsFrom, biddersFrom, rowsFrom, recordsFrom, bidsFrom}
+use Rattle.rules.specs.Layout.{read1, read2, read3, lotRead, lotsRead, recordFrom, lineFrom, loaded, productWidth, bidderWidth, rowWidth, lotWidth, lotsWidth, recordWidth, lineWidth, productsFrom, biddersFrom, rowsFrom, recordsFrom, bidsFrom}
 use Rattle.rules.specs.Legal.{recordZero}
 use Rattle.rules.specs.Stands.{Stands}
 use Rattle.laws.specs.OneCall.{StandsIn, SpareZero}
@@ -48,20 +49,29 @@ module _ (s : List ℕ) where
       then a (a + 1) b (zero1 a (a + 1) (omega arith) (omega arith))
       (then (a + 1) (a + 2) b (zero1 (a + 1) (a + 2) (omega arith) (omega arith)) (zero1 (a + 2) b (omega arith) (omega arith)))
 
-  -- a record and a line that are 0
-  record-spare : (k : ℕ) → recordZero (recordFrom s k) ≡ true → Zero k (k + 6)
+  -- a lot, four lots, a record and a line that are 0
+  lot-spare : (k b : ℕ) → b ≤ k + lotWidth → lotZero (lotRead s k) ≡ true → Zero k b
+  lot-spare k b h z = then _ (k + 1) _ (zero1 _ _ (omega arith) (search told)) (zero3 _ _ (omega arith) (search told))
+
+  lots-spare : (k b : ℕ) → b ≤ k + lotsWidth → lotsZero (lotsRead s k) ≡ true → Zero k b
+  unfolding lotsRead
+  lots-spare k b h z =
+      then _ (k + lotWidth) _ (lot-spare _ _ (omega arith) (search told))
+      (then _ (k + 2 * lotWidth) _ (lot-spare _ _ (omega arith) (search told))
+      (then _ (k + 3 * lotWidth) _ (lot-spare _ _ (omega arith) (search told))
+      (lot-spare _ _ (omega arith) (search told))))
+
+  record-spare : (k : ℕ) → recordZero (recordFrom s k) ≡ true → Zero k (k + recordWidth)
   record-spare k z =
       then _ (k + 1) _ (zero1 _ _ (omega arith) (search told))
       (then _ (k + 2) _ (zero1 _ _ (omega arith) (search told))
-      (then _ (k + 3) _ (zero1 _ _ (omega arith) (search told))
-      (zero3 _ _ (omega arith) (search told))))
+      (lots-spare _ _ (omega arith) (search told)))
 
-  line-spare : (k : ℕ) → lineZero (lineFrom s k) ≡ true → Zero k (k + 6)
+  line-spare : (k : ℕ) → lineZero (lineFrom s k) ≡ true → Zero k (k + lineWidth)
   line-spare k z =
       then _ (k + 1) _ (zero1 _ _ (omega arith) (search told))
-      (then _ (k + 2) _ (zero1 _ _ (omega arith) (search told))
-      (then _ (k + 5) _ (zero3 _ _ (omega arith) (search told))
-      (zero1 _ _ (omega arith) (search told))))
+      (then _ (k + 1 + lotsWidth) _ (lots-spare _ _ (omega arith) (search told))
+      (zero1 _ _ (omega arith) (search told)))
 
 -- ---- the slots
 

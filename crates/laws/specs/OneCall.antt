@@ -14,9 +14,12 @@ use Rattle.rules.specs.declared.Auction.{Auction}
 use Rattle.rules.specs.Count.{sumUpTo}
 use Rattle.rules.specs.Answers.{answerOf, calculationSaid, bidsOpen, stopped}
 use Rattle.rules.specs.Settings.{setup, targetOf, startOf}
-use Rattle.rules.specs.Held.{goingIn, deniedIn, retainedIn, exitIn, held, freeOf, eligibility, excess}
-use Rattle.rules.specs.Bid.{oneIf, hasFiled, slotOf, recordOf, priceAt, beforeAt, markAt}
+use Rattle.rules.specs.Lots.{Ordered, Beginning, AllWithin}
+use Rattle.rules.specs.Held.{goingIn, deniedIn, held, ticked, freeOf, eligibility, excess}
+use Rattle.rules.specs.Bid.{oneIf, hasFiled, slotOf, recordOf, priceAt, beforeAt, markAt, bidOn}
+use Rattle.rules.specs.Accept.{placeAt}
 use Rattle.rules.specs.Price.{decrementFor, fallen, isGiven, decrementBy}
+use Rattle.rules.specs.Round.{afterStep2}
 use Rattle.rules.specs.Cutback.{givenFor, revised}
 use Rattle.rules.specs.Layout.{productsFrom, biddersFrom, rowsFrom, recordsFrom, bidsFrom, loaded, productWidth, bidderWidth, rowWidth, recordWidth, lineWidth, stateLength}
 use Rattle.rules.specs.Legal.{isOpen, stands}
@@ -76,6 +79,19 @@ pub record PriceBy (a z : Auction) (o : Override) (p : ℕ) : Type 0 where
   pub stayed : isOpen z ≡ true → held (z .records) (a .terms .bidders) p ≤ targetOf (setup a) p → markAt z p ≡ 0
   pub ended : isOpen z ≡ false → markAt z p ≡ 0
 
+-- Document 02, request 2: what a round by that draw makes of the retained lots of bidder b on product p, from a to z
+pub record LotsAfter (a : Auction) (draw : List ℕ) (z : Auction) (b p : ℕ) : Type 0 where
+  -- on a product that ticked they are a beginning of the lots of the bid, place for place, all whole but the last, and the rest is what step 2
+  -- did not keep: as a card has four lots, a record never needs a fifth
+  pub beginning : ticked a p ≡ true
+      → Beginning (bidOn a b p .withdrawn) (placeAt (afterStep2 a draw .places) (b * 8 + p) .leaving) (recordOf z b p .retained)
+  -- so that in each place there are no more, at the same price
+  pub of-the-bid : ticked a p ≡ true → AllWithin (bidOn a b p .withdrawn) (recordOf z b p .retained)
+  -- elsewhere they are those that stood, less what was outbid
+  pub of-the-record : ticked a p ≡ false → AllWithin (recordOf a b p .retained) (recordOf z b p .retained)
+  -- everywhere "ordered as on a card"
+  pub ordered : Ordered (recordOf z b p .retained)
+
 -- what a cutback to these targets and caps makes of the auction a: nothing changes but targets, caps, g, f, p, q, marks, which are
 -- dropped, and the phase where it stops; it never closes
 pub record CutOnly (a z : Auction) (targets caps : List Tranches) : Type 0 where
@@ -86,8 +102,7 @@ pub record CutOnly (a z : Auction) (targets caps : List Tranches) : Type 0 where
   pub phase : (z .phase ≡ bidsOpen) ⊎ (z .phase ≡ stopped)
   pub going : (b p : ℕ) → b < 32 → p < 8 → goingIn (recordOf z b p) ≡ min (goingIn (recordOf a b p)) (givenFor caps p)
   pub denied : (b p : ℕ) → b < 32 → p < 8 → deniedIn (recordOf z b p) ≡ deniedIn (recordOf a b p)
-  pub retained : (b p : ℕ) → b < 32 → p < 8 → retainedIn (recordOf z b p) ≡ retainedIn (recordOf a b p)
-  pub exit : (b p : ℕ) → b < 32 → p < 8 → exitIn (recordOf z b p) ≡ exitIn (recordOf a b p)
+  pub retained : (b p : ℕ) → b < 32 → p < 8 → recordOf z b p .retained ≡ recordOf a b p .retained
   -- "the difference becomes its free eligibility": no bidder's g + f changes, nor its eligibility
   pub moved : (b : ℕ) → b < a .terms .bidders
       → sumUpTo (λ p. goingIn (recordOf z b p)) (a .terms .products) + freeOf z b

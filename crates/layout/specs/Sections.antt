@@ -16,11 +16,18 @@ bidderWidth = 4
 abbrev pub rowWidth : ℕ
 rowWidth = 4
 
+-- a count and a price; four of them
+abbrev pub lotWidth : ℕ
+lotWidth = 4
+
+abbrev pub lotsWidth : ℕ
+lotsWidth = 4 * lotWidth
+
 abbrev pub recordWidth : ℕ
-recordWidth = 6
+recordWidth = 2 + lotsWidth
 
 abbrev pub lineWidth : ℕ
-lineWidth = 6
+lineWidth = 1 + lotsWidth + 1
 
 -- ---- where each section begins
 
@@ -39,6 +46,7 @@ recordsFrom = rowsFrom + 8 * rowWidth
 abbrev pub bidsFrom : ℕ
 bidsFrom = recordsFrom + 256 * recordWidth
 
--- "The state is lent bytes of one fixed length, at most 8,192"
+-- "The state is lent bytes of one fixed length, at most 8,192"; document 02: "The state limit becomes 32,768
+-- bytes"
 abbrev pub stateLength : ℕ
 stateLength = bidsFrom + 256 * lineWidth

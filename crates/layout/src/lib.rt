@@ -52,17 +52,23 @@ pub const DECREMENT: usize = PERCENT + 2;
 
 pub const ROW: usize = DECREMENT + 2 - PERCENT;
 
-// ---- 256 records: g, d, r, and the exit price
+// ---- Lots: a count and the exit price; four of them
+
+pub const LOT: usize = 1 + 3;
+
+pub const LOTS: usize = 4 * LOT;
+
+// ---- 256 records: g, d, and the lots retained
 
 pub const RECORDS: usize = PERCENT + 8 * ROW;
 
-pub const RECORD: usize = 1 + 1 + 1 + 3;
+pub const RECORD: usize = 1 + 1 + LOTS;
 
-// ---- 256 bid lines: tranches, withdrawn, the exit price, and the priority
+// ---- 256 bid lines: tranches, the lots withdrawn, and the priority
 
 pub const BIDS: usize = RECORDS + 256 * RECORD;
 
-pub const LINE: usize = 1 + 1 + 3 + 1;
+pub const LINE: usize = 1 + LOTS + 1;
 
 // The state's length.
 pub const STATE: usize = BIDS + 256 * LINE;

@@ -38,16 +38,16 @@ module _ (a : Auction) (p b : ℕ) (h : p < 8) where
 pub record Part (a : Auction) (p n b x y : ℕ) (ok : Bool) : Type 0 where
   pub passed : Passed (standsOn a p) n b ok
   pub held : x ≡ held (a .records) b p
-  pub few : x ≤ 196605 * b
+  pub few : x ≤ 393210 * b
   pub kept : y ≡ sumUpTo (λ b. keptIn (recordOf a b p)) b
-  pub small : y ≤ 131070 * b
+  pub small : y ≤ 327675 * b
 
 module _ {a : Auction} {p n : ℕ} where
   pub none-yet : Part a p n 0 0 0 true
   none-yet = record { passed = none-passed; held = refl; few = omega arith; kept = refl; small = omega arith }
 
   pub one-yet : {b x y u v : ℕ} {ok t : Bool} {r : Record} → Part a p n b x y ok → b < n → r ≡ recordAt (a .records) (place b p)
-      → (u ≡ heldIn r) × (u ≤ 196605) → (v ≡ keptIn r) × (v ≤ 131070) → t ≡ standsOn a p b
+      → (u ≡ heldIn r) × (u ≤ 393210) → (v ≡ keptIn r) × (v ≤ 327675) → t ≡ standsOn a p b
       → Part a p n (b + 1) (x + u) (y + v) (ok && t)
   one-yet {b} {x} {y} {u} {v} h l e f g k =
       let i = h .few in

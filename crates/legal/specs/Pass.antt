@@ -12,7 +12,7 @@ use Rattle.legal.specs.declared.holdings.Columns.{Columns}
 -- on one product
 pub record ColumnOf (a : Auction) (p : ℕ) (c : Column) : Type 0 where
   pub held : c .held ≡ heldOn a p
-  pub few : c .held ≤ 6291360
+  pub few : c .held ≤ 12582720
   pub kept : c .kept ≡ keptOn a p
   pub stands : c .stands ≡ allUpTo (λ b. recordStands a (place b p)) 32
 

@@ -51,15 +51,14 @@ pub fn products_stand(s: &[u8], held: &[u32; 8], kept: &[u32; 8]) -> bool
     ok
 }
 
-// "retained exits above p, at most q, and 0 where r is 0"; "each bidder within product caps"; past the bidders or products in use 0
+// "retained exits above p, at most q", lot by lot, "ordered as on a card"; "each bidder within product caps"; past the bidders or products
+// in use 0
 fn record_stands(used: bool, p: Price, q: Price, cap: Tranches, r: Record) -> bool
     ensures { λ o. ⌜ o ≡ cond used (recordWithin (amountOf p) (amountOf q) (cap .0) r) (recordZero r) ⌝ }
 {
     if used {
-        let exit = r.retained.exit;
-        let some = r.retained.count.0 > 0;
-        let within = (p.amount() < exit) & (exit <= q.amount());
-        return ((some & within) | (!some & (exit == 0))) & (r.held() <= cap.0 as u32);
+        let fit = r.retained.exits_fit(p.amount(), q.amount());
+        return fit & (r.held() <= cap.0 as u32);
     }
     r.is_zero()
 }

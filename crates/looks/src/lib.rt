@@ -3,7 +3,6 @@ use asked::Numbers;
 use asked::One;
 use asked::ends;
 use asked::groups;
-use asked::lines_of;
 use asked::one_byte;
 use asked::one_number;
 use asked::two_bytes;
@@ -19,6 +18,7 @@ use rules::Answer;
 use rules::Award;
 use rules::Card;
 use rules::Count;
+use rules::Line;
 use rules::Report;
 use rules::Volume;
 use store::Kind;
@@ -328,10 +328,9 @@ fn write_card(
     products: usize,
     bidder: u32,
     round: u32,
-    numbers: [u32; 40],
+    lines: [Line; 8],
     out: &mut [u8; ANSWER],
 ) -> usize {
-    let lines = lines_of(numbers);
     let b = one_byte(bidder);
     let r = two_bytes(round);
     let k = card_length(products);
@@ -354,17 +353,18 @@ fn write_lines(
 ) -> usize {
     match one_number(line, c, out) {
         One::Number(round, next) => {
-            let mut numbers = [0u32; 40];
-            match groups(line, next, &mut numbers, out) {
-                Numbers::Found(_) => write_card(products as usize, bidder, round, numbers, out),
-                Numbers::Said(n) => n,
+            let asked = groups(line, next, out);
+            if asked.said != 0 {
+                return asked.said;
             }
+            let lines = asked.lines;
+            write_card(products as usize, bidder, round, lines, out)
         }
         One::Said(n) => n,
     }
 }
 
-// `write N B R T W X P ..`
+// `write N B R T LOTS P ..`
 fn write(line: &[u8], c: Cursor, out: &mut [u8; ANSWER]) -> usize {
     match one_number(line, c, out) {
         One::Number(products, at_bidder) => match one_number(line, at_bidder, out) {

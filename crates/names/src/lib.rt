@@ -262,11 +262,17 @@ fn put_whose(
     put_beside(shown, to, names, whose_of(mark, n))
 }
 
-fn put_all(shown: &mut [u8; ANSWER], out: &[u8], n: usize, names: &[u8; NAMES]) -> usize
-    requires { ⌜ n ≤ length (now out) ⌝ }
+fn put_all(
+    shown: &mut [u8; ANSWER],
+    out: &[u8],
+    start: usize,
+    n: usize,
+    names: &[u8; NAMES],
+) -> usize
+    requires { ⌜ (start ≤ n) × (n ≤ length (now out)) ⌝ }
 {
     let mut to = 0;
-    let mut from = 0;
+    let mut from = start;
     while from < n {
         let mark = next_mark(out, from, n);
         to = put(shown, to, &out[from..mark]);
@@ -281,21 +287,31 @@ fn put_all(shown: &mut [u8; ANSWER], out: &[u8], n: usize, names: &[u8; NAMES]) 
     to
 }
 
-fn put_first(shown: &mut [u8; ANSWER], out: &[u8], n: usize, names: &[u8; NAMES]) -> usize {
-    if n <= out.len() {
-        return put_all(shown, out, n, names);
-    }
-    0
-}
-
-// The first n bytes of an answer, with each name that is given beside its number: the length of that.
-pub fn put_names(
+fn put_within(
     shown: &mut [u8; ANSWER],
-    out: &[u8; ANSWER],
+    out: &[u8],
+    start: usize,
     n: usize,
     names: &[u8; NAMES],
 ) -> usize {
-    put_first(shown, out, n, names)
+    if out.len() < n {
+        return 0;
+    }
+    if n < start {
+        return 0;
+    }
+    put_all(shown, out, start, n, names)
+}
+
+// The bytes of an answer from one place to another, with each name that is given beside its number: the length of that.
+pub fn put_names(
+    shown: &mut [u8; ANSWER],
+    out: &[u8; ANSWER],
+    start: usize,
+    n: usize,
+    names: &[u8; NAMES],
+) -> usize {
+    put_within(shown, out, start, n, names)
 }
 
 // ---- All names, a line each

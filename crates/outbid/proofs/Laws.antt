@@ -18,14 +18,15 @@ use Rattle.rules.specs.Units.{tranches}
 use Rattle.rules.specs.Held.{deniedIn, retainedIn, exitIn}
 use Rattle.rules.specs.Accept.{nowhere, placeAt, changed, column, rowOf, heldOf, keptOf, riseOf, deem, outbidSwitch, outbidWithdrawal}
 use Rattle.rules.specs.Outbid.{deemIf, deemedUpTo, outbid, freed, deniedOne, retainedOne, outbidRetained, outbidBy}
-use Rattle.rules.proofs.Sums.{sum-ext, sum-one, best-found, best-none}
+use Rattle.rules.proofs.Sums.{sum-ext, sum-one, best-found}
 use Rattle.rules.proofs.Places.{each, column-at, column-beside}
+use Rattle.rules.proofs.LotLaws.{outbid-total}
 use Rattle.table.specs.declared.Next.{Next}
 use Rattle.table.specs.Next.{nobody}
 use Rattle.table.specs.Room.{Fits, Room}
-use Rattle.table.proofs.Turns.{Apart, soonest-ext, next-nobody, next-first, next-second}
+use Rattle.table.proofs.Turns.{Apart, soonest-ext, soonest-at, next-nobody, next-first, next-second}
 use Rattle.table.proofs.Laws.{room-set}
-use Rattle.outbid.specs.Loss.{deniedOf, turnOf, Small, Soonest, Known, freeAt, Free, Lost}
+use Rattle.outbid.specs.Loss.{deniedOf, turnOf, Again, turnAt, Small, Soonest, Known, freeAt, Free, Lost}
 
 -- ---- step 3
 
@@ -85,16 +86,13 @@ module _ (n : ℕ) (draw : ℕ → ℕ) (ps : List Place) (p : ℕ) where
   -- a denied switch is outbid
   pub record Switch (j : ℕ) : Type 0 where
     pub first : deniedOne n draw ps p ≡ At j
-    pub drawn : j < n
     pub some : 0 < deniedIn (placeAt ps (draw j * 8 + p) .holds)
 
   -- a retained withdrawal is outbid
   pub record Withdrawal (j : ℕ) : Type 0 where
     pub none : deniedOne n draw ps p ≡ Nobody
     pub first : retainedOne n draw ps p ≡ At j
-    pub drawn : j < n
     pub some : 0 < retainedIn (placeAt ps (draw j * 8 + p) .holds)
-    pub nothing : deniedIn (placeAt ps (draw j * 8 + p) .holds) ≤ 0
 
   module _ (s : Next) (S : Soonest n draw ps p s) where
     apart : (i : ℕ) → i < n → Apart 1 0 (late i)
@@ -113,27 +111,17 @@ module _ (n : ℕ) (draw : ℕ → ℕ) (ps : List Place) (p : ℕ) where
     soonest-switch z =
         let e = next-first denies retains (λ i. 0) late 1 n apart s (S .is) (omega arith) (omega arith) in
         let f = best-found denies never n (s .at) e in
-        record { first = e; drawn = f .0; some = ltb-true _ _ (f .1) }
+        record { first = e; some = ltb-true _ _ (f .1) }
 
     module _ (d : s .turn ≡ 4294967297 → ⊥) where
       pub soonest-withdrawal : (s .turn ≡ 0 → ⊥) → Withdrawal (s .at)
       soonest-withdrawal z =
           let w = next-second denies retains (λ i. 0) late 1 n apart s (S .is) (omega (arith, z)) d in
           let f = best-found retains (λ i j. ltb (late i) (late j)) n (s .at) (w .1) in
-          record {
-            none = w .0;
-            first = sym by-exit ∙ w .1;
-            drawn = f .0;
-            some = ltb-true _ _ (f .1);
-            nothing = ltb-false _ _ (best-none denies never n (w .0) (s .at) (f .0));
-          }
-
-      drawn-by : (t : Bool) → eqb (s .turn) 0 ≡ t → s .at < n
-      drawn-by true e = soonest-switch (eqb-true (s .turn) 0 e) .drawn
-      drawn-by false e = soonest-withdrawal (eqb-false (s .turn) 0 e) .drawn
+          record { none = w .0; first = sym by-exit ∙ w .1; some = ltb-true _ _ (f .1) }
 
       pub soonest-drawn : s .at < n
-      soonest-drawn = drawn-by (eqb (s .turn) 0) refl
+      soonest-drawn = soonest-at (turnAt n draw ps p) n s (S .is) d .0
 
   pub known-none : Known n draw ps p nobody
   known-none l = absurd (let x : ⊥ = omega arith in x)
@@ -144,14 +132,14 @@ module _ (n : ℕ) (draw : ℕ → ℕ) (ps : List Place) (p : ℕ) where
 
   -- with the turn of a place as it was, the next is the same
   soonest-again : (k : ℕ) (x : Place) → k < length ps → turnOf (x .holds) ≡ turnOf (placeAt ps k .holds)
-      → exitIn (x .holds) ≤ exitIn (placeAt ps k .holds) → (s : Next) → Soonest n draw ps p s → Soonest n draw (set ps k x) p s
+      → exitIn (x .holds) ≤ 4294967295 → (s : Next) → Soonest n draw ps p s → Soonest n draw (set ps k x) p s
   soonest-again k x l t e s S =
       let same = each (λ _. x) ps k l
-      (λ a b. (turnOf (b .holds) ≡ turnOf (a .holds)) × (exitIn (b .holds) ≤ exitIn (a .holds)))
-      (λ a. (refl, omega arith)) (t, e) in
+      (λ a b. (turnOf (b .holds) ≡ turnOf (a .holds)) × (exitIn (a .holds) ≤ 4294967295 → exitIn (b .holds) ≤ 4294967295))
+      (λ a. (refl, λ h. h)) (t, λ _. e) in
       record {
         is = S .is ∙ sym (soonest-ext _ _ n (λ i _. same (draw i * 8 + p) .0));
-        small = λ i l. omega (arith, same (draw i * 8 + p) .1, S .small i l);
+        small = λ i l. same (draw i * 8 + p) .1 (S .small i l);
       }
 
 -- ---- what a bidder has denied, with the place of bidder b on product p stored anew
@@ -235,13 +223,13 @@ module _ (n : ℕ) (draw : ℕ → ℕ) (ps : List Place) (R : Room ps) (p : ℕ
     column-same : (f : Place → ℕ) (q : ℕ) → q < 8 → (q ≡ p → ⊥) → column f (set ps k x) q n ≡ column f ps q n
     column-same f q lq u = column-beside (λ _. x) ps b p in-place f q n lp lq u
 
-    -- who is known to be next, where some of the same kind are left
-    module _ (t : Bool) (next : Next) (m : next ≡ cond t s nobody) where
-      known-again : (t ≡ true → turnOf (x .holds) ≡ turnOf (placeAt ps k .holds)) → exitIn (x .holds) ≤ exitIn (placeAt ps k .holds)
-          → Known n draw (set ps k x) p next
-      known-again h e =
-          subst (Known n draw (set ps k x) p) (sym m)
-          (known-if n draw (set ps k x) p s t (λ i _. soonest-again n draw ps p k x in-place (h i) e s S))
+    -- the bidder found is known to be next again where its turn is as it was
+    known-again : (s .turn ≡ 4294967297 → ⊥) → (next : Next) → Again s (x .holds) next → Known n draw (set ps k x) p next
+    known-again u next A =
+        let here = soonest-at (turnAt n draw ps p) n s (S .is) u .1 ∙ ap (λ b. turnOf (placeAt ps (b * 8 + p) .holds)) (sym d) in
+        subst (Known n draw (set ps k x) p) (sym (A .is))
+        (known-if n draw (set ps k x) p s (eqb (turnOf (x .holds)) (s .turn))
+        (λ i _. soonest-again n draw ps p k x in-place (eqb-true _ _ i ∙ here) (A .exit) s S))
 
     -- the place is that of the bidder found
     at-drawn : (P : Place → Type 0) → P (placeAt ps (draw (s .at) * 8 + p)) → P (placeAt ps k)
@@ -251,48 +239,21 @@ module _ (n : ℕ) (draw : ℕ → ℕ) (ps : List Place) (R : Room ps) (p : ℕ
     some-denied z = at-drawn (λ l. 0 < deniedOf l) (soonest-switch n draw ps p s S z .some)
 
     module _ (u : s .turn ≡ 4294967297 → ⊥) (z : s .turn ≡ 0 → ⊥) where
-      pub some-retained : 0 < retainedIn (placeAt ps k .holds)
+      some-retained : 0 < retainedIn (placeAt ps k .holds)
       some-retained = at-drawn (λ l. 0 < retainedIn (l .holds)) (soonest-withdrawal n draw ps p s S u z .some)
 
-      none-denied : deniedIn (placeAt ps k .holds) ≤ 0
-      none-denied = at-drawn (λ l. deniedIn (l .holds) ≤ 0) (soonest-withdrawal n draw ps p s S u z .nothing)
-
-      exit-left : (r e : ℕ) (t : Bool) → cond t e 0 ≤ e
-      exit-left r e true = omega arith
-      exit-left r e false = omega arith
-
-      -- its turn, where one more withdrawal is left
-      late-again : x ≡ outbidWithdrawal (placeAt ps k) → ltb 0 (retainedIn (x .holds)) ≡ true
-          → turnOf (x .holds) ≡ turnOf (placeAt ps k .holds)
-      late-again g t =
-          let had = retainedIn (placeAt ps k .holds) in
-          let left = ltb-true 0 (retainedIn (x .holds)) t in
-          let r = ap (λ y. retainedIn (y .holds)) g in
-          let none = none-denied in
-          let i = ap (λ y. deniedOf y) g in
-          rw (
-            le-ltb 0 (deniedIn (x .holds)) (omega arith),
-            le-ltb 0 (deniedIn (placeAt ps k .holds)) none,
-            t,
-            lt-ltb 0 had (omega arith),
-          )
-          (ap (λ e. 4294967296 - e)
-          (ap (λ y. exitIn (y .holds)) g ∙ ap (λ t. cond t (exitIn (placeAt ps k .holds)) 0) (lt-ltb 1 had (omega arith))))
-
       pub lost-withdrawal : x ≡ outbidWithdrawal (placeAt ps k)
-          → (next : Next) → next ≡ cond (ltb 0 (retainedIn (x .holds))) s nobody
+          → (next : Next) → Again s (x .holds) next
           → Lost n draw ps p (record { at = k; place = x; owner = b; freed = 0; more = 1; next = next })
-      lost-withdrawal g next m =
+      lost-withdrawal g next A =
           let W = soonest-withdrawal n draw ps p s S u z in
           let F = R .each k in
-          let some = some-retained in
+          let fewer = outbid-total (placeAt ps k .holds .retained) some-retained in
           let gone : Fits (outbidWithdrawal (placeAt ps k)) =
           record { outs = omega (arith, F .outs); switches = F .switches; rises = F .rises } in
           let same = ap deniedOf g in
           let h = ap heldOf g in
           let i = ap keptOf g in
-          let e = exit-left 0 (exitIn (placeAt ps k .holds)) (ltb 1 (retainedIn (placeAt ps k .holds))) in
-          let f = ap (λ y. exitIn (y .holds)) g in
           record {
             at = omega arith;
             owner = omega arith;
@@ -306,14 +267,14 @@ module _ (n : ℕ) (draw : ℕ → ℕ) (ps : List Place) (R : Room ps) (p : ℕ
             free = λ fs l E. free-set ps R b p (omega arith) lp x 0 fs l E (omega arith);
             held = column-less heldOf 1 (omega arith);
             kept = column-less keptOf 1 (omega arith);
-            known = known-again (ltb 0 (retainedIn (x .holds))) next m (late-again g) (omega arith);
+            known = known-again u next A;
             beside = column-same;
           }
 
     pub lost-switch : s .turn ≡ 0 → x ≡ outbidSwitch (placeAt ps k)
-        → (next : Next) → next ≡ cond (ltb 0 (deniedIn (x .holds))) s nobody
+        → (next : Next) → Again s (x .holds) next
         → Lost n draw ps p (record { at = k; place = x; owner = b; freed = 1; more = 1; next = next })
-    lost-switch z g next m =
+    lost-switch z g next A =
         let W = soonest-switch n draw ps p s S z in
         let F = R .each k in
         let some = some-denied z in
@@ -322,7 +283,6 @@ module _ (n : ℕ) (draw : ℕ → ℕ) (ps : List Place) (R : Room ps) (p : ℕ
         let less = ap deniedOf g in
         let h = ap heldOf g in
         let i = ap keptOf g in
-        let e = ap (λ y. exitIn (y .holds)) g in
         record {
           at = omega arith;
           owner = omega arith;
@@ -335,7 +295,6 @@ module _ (n : ℕ) (draw : ℕ → ℕ) (ps : List Place) (R : Room ps) (p : ℕ
           free = λ fs l E. free-set ps R b p (omega arith) lp x 1 fs l E (omega arith);
           held = column-less heldOf 1 (omega arith);
           kept = column-less keptOf 1 (omega arith);
-          known = known-again (ltb 0 (deniedIn (x .holds))) next m
-              (λ t. rw (t, lt-ltb 0 (deniedIn (placeAt ps k .holds)) some)) (omega arith);
+          known = known-again (λ e. omega arith) next A;
           beside = column-same;
         }

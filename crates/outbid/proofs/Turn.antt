@@ -90,7 +90,7 @@ module _ (m n : ℕ) (targets ticks order : List ℕ) (ps₀ : List Place) where
     pub room : Room ps
     pub long : length fs ≡ 32
     pub free : Free fs ps
-    pub some : count + fuel ≤ 33553920
+    pub some : count + fuel ≤ 83884800
     pub sums : Counted ps held kept n
     pub start-in : start ≤ m
     pub before : firstUpTo (overBy held kept targets ticks) start ≡ Nobody

@@ -10,12 +10,11 @@ ghost use Rattle.rules.specs.Held.{standing, above};
 ghost use Rattle.rules.specs.Accept.{changed};
 ghost use Rattle.rules.specs.Outbid.{deemIf, deemedUpTo, outbid, outbidAll};
 ghost use Rattle.rules.specs.Round.{drawn};
-ghost use Rattle.table.specs.Drawn.{Drawn};
 ghost use Rattle.held.specs.Ticks.{isOne};
 ghost use Rattle.table.specs.Next.{nobody};
 ghost use Rattle.table.specs.Room.{Room, Prepared, targetOn};
 ghost use Rattle.table.specs.Rows.{placesIn};
-ghost use Rattle.outbid.specs.Loss.{Empty, Summed, AsMuch, lessOf, overBy, Looking, Timed, Asked, Soonest, Lost};
+ghost use Rattle.outbid.specs.Loss.{Empty, Summed, AsMuch, lessOf, overBy, Looking, Timed, Again, Asked, Soonest, Lost};
 use rules::Pick;
 use rules::Place;
 use rules::Record;
@@ -87,7 +86,7 @@ fn lower(held: &mut [u32; 8], kept: &mut [u32; 8], p: usize, by: u32)
 }
 
 fn is_over(held: u32, kept: u32, target: u16, tick: u8) -> bool
-    requires { ⌜ held ≤ 10000000 ⌝ }
+    requires { ⌜ held ≤ 20000000 ⌝ }
     ensures { λ r. ⌜ r ≡ (not (eqb tick 1) && (above (standing held target) && ltb 0 kept)) ⌝ }
 {
     let above = held::is_above(held::standing_of(held, target));
@@ -127,8 +126,8 @@ fn turn_of(r: Record) -> u64
     if 0 < r.denied.0 {
         return SWITCH;
     }
-    if 0 < r.retained.count.0 {
-        return 4294967296 - r.retained.exit as u64;
+    if 0 < r.retained.total() {
+        return 4294967296 - r.retained.highest() as u64;
     }
     NOTHING
 }
@@ -143,6 +142,13 @@ fn known_if(next: Next, sure: bool) -> Next
         at: 0,
         turn: NOTHING,
     }
+}
+
+// A bidder with another of the same kind and price left is next again: its turn is as it was.
+fn known_again(next: Next, r: Record) -> Next
+    ensures { λ n. ⌜ Again next r n ⌝ }
+{
+    known_if(next, turn_of(r) == next.turn)
 }
 
 // "ties by earliest draw". Looked for only where it is not known.
@@ -178,7 +184,6 @@ struct Loss {
     pub next: Next,
 }
 
-// A bidder with another of the same kind left is next again.
 fn lose(ps: &[[u32; WIDTH]; 256], order: &[u8], p: usize, bidders: usize, known: Next) -> Loss
     requires { ⌜ Asked bidders (now order) (placesIn (now ps)) p known ⌝ }
     ensures { λ r. ⌜ Lost bidders (drawn (now (order .entry))) (placesIn (now (ps .entry))) p r ⌝ }
@@ -202,7 +207,7 @@ fn lose(ps: &[[u32; WIDTH]; 256], order: &[u8], p: usize, bidders: usize, known:
     if s.turn == SWITCH {
         // "An outbid denied switch becomes one free eligibility of its owner."
         let place = l.outbid_switch();
-        let next = known_if(s, 0 < place.holds.denied.0);
+        let next = known_again(s, place.holds);
         return Loss {
             at,
             place,
@@ -215,7 +220,7 @@ fn lose(ps: &[[u32; WIDTH]; 256], order: &[u8], p: usize, bidders: usize, known:
     let place = l.outbid_withdrawal();
     // "An outbid withdrawal is gone."
     let freed = 0;
-    let next = known_if(s, 0 < place.holds.retained.count.0);
+    let next = known_again(s, place.holds);
     Loss {
         at,
         place,

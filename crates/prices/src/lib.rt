@@ -56,7 +56,7 @@ pub struct Next {
 }
 
 fn work_out(s: &[u8], given: Override, held: u32, target: u16, going: Price, last: Price) -> Next
-    requires { ⌜ Lent (now s) × (held ≤ 10000000) ⌝ }
+    requires { ⌜ Lent (now s) × (held ≤ 20000000) ⌝ }
     ensures { λ r. ⌜ WorkedOut (loaded (now (s .entry)) .decrements) given held target going last r ⌝ }
 {
     let over = held::above_zero(held::standing_of(held, target));
@@ -94,7 +94,7 @@ pub struct Outlook {
 
 // Of what is held of each product.
 pub fn foresee(s: &[u8], held: &[u32; 8], l: Lanes) -> Outlook
-    requires { ⌜ Lent (now s) × ((q : ℕ) → q < 8 → getD (now held) q 0 ≤ 10000000) ⌝ }
+    requires { ⌜ Lent (now s) × ((q : ℕ) → q < 8 → getD (now held) q 0 ≤ 20000000) ⌝ }
     ensures { λ r. ⌜ Foresees (loaded (now (s .entry))) (now (held .entry)) l r ⌝ }
 {
     let products = book::products(s);

@@ -36,7 +36,8 @@ use Rattle.laws.specs.OneCall.{StandsIn}
 use Rattle.laws.proofs.OneCall.{stood, of-standing, open-stands, open-loaded, open-standing, file-refused, calculate-accepts, calculate-loaded, calculate-refused, cutback-accepts, cutback-refused}
 use Rattle.rules.specs.Uses.{Call, opens, files, counts, calculates, cuts, reports, results, reads, writes, suggests, after}
 use Rattle.promises.specs.Runs.{run, openedBy, filledPart, Round, roundOf, Cutback, cutbacks, settingsAfter}
-use Rattle.promises.specs.Awards.{Closed, awardOn, paidFor}
+use Rattle.promises.specs.Awards.{Closed, awardOn, paidFor, PaidHighest}
+use Rattle.promises.proofs.Paid.{paid-most, paid-some, paid-none}
 use Rattle.promises.proofs.Offers.{closed-within}
 use Rattle.promises.proofs.Steps.{Step, same, card, round, cut, step, some-none, after-stands, run-later, run-keeps, parts-later, opened-stands, opened-settings, opened-terms, in-use}
 use Rattle.promises.specs.Demands.{ClosingBid}
@@ -73,6 +74,17 @@ module _ (s : List ℕ) (S : StandsIn s) (c : Closed s) where
       ap (λ r. amountOf (getD (r .prices) p (quote 0 0) .price)) result-is
       ∙ ap (λ q. amountOf (q .price)) (list-at (λ p. quote (loaded s .terms .unit) (paidOn (loaded s) p)) (quote 0 0) 8 p (omega arith))
       ∙ amount-is (eqb (loaded s .terms .unit) 0) (paidOn (loaded s) p)
+
+  -- which looks at every lot: no held tranche has a higher price, and one has that price
+  pub paid-highest : (p : ℕ) → p < loaded s .terms .products → PaidHighest s p
+  paid-highest p hp =
+      let e = paid-is p hp in
+      let T = stood s S in
+      record {
+        most = rw e (paid-most (loaded s) T p hp);
+        some = rw e (paid-some (loaded s) T p hp);
+        none = λ h. e ∙ paid-none (loaded s) T p hp h;
+      }
 
   awards-are : (p : ℕ) → p < loaded s .terms .products
       → sumUpTo (λ b. awardOn s b p) (loaded s .terms .bidders) ≡ held (loaded s .records) (loaded s .terms .bidders) p

@@ -1,5 +1,6 @@
 pub mod Steps
 pub mod Promised
+pub mod Paid
 pub mod Offers
 pub mod Closing
 pub mod Offering

@@ -11,6 +11,7 @@ use Rattle.rules.specs.declared.Auction.{Auction}
 use Rattle.rules.specs.Count.{sumUpTo}
 use Rattle.rules.specs.Parts.{tranchesAt}
 use Rattle.rules.specs.Settings.{setup, termsOf, setupOf, initialOf}
+use Rattle.rules.specs.Lots.{noLots, total}
 use Rattle.rules.specs.Held.{nothing, goingIn, deniedIn, retainedIn, eligibility, place}
 use Rattle.rules.specs.Bid.{bidIn, withdrawnIn as withdrawnOn, reduction, increase, recordOf, bidOn}
 use Rattle.rules.specs.Round.{calculated}
@@ -19,6 +20,7 @@ use Rattle.rules.specs.Layout.{loaded}
 use Rattle.rules.specs.Calls.{opened, openNumber, withCard}
 use Rattle.rules.specs.Stands.{Stands, Long}
 use Rattle.rules.proofs.Sums.{sum-ext, sum-le, sum-six, sum-add, sum-zero}
+use Rattle.rules.proofs.LotLaws.{within-refl}
 use Rattle.rules.proofs.Storing.{loaded-long}
 use Rattle.laws.proofs.Opening.{blank, opened-free}
 use Rattle.laws.proofs.Bids.{bids-accepted}
@@ -32,7 +34,7 @@ use Rattle.promises.specs.Offered.{OnOffer, noOffer, offeredFrom, onOffe
 use Rattle.promises.specs.Awards.{Closed, awardOn}
 use Rattle.promises.specs.Demands.{AwardOffered, AwardedOnce}
 use Rattle.promises.proofs.Steps.{Step, same, card, round, cut, step, after-stands, run-keeps, opened-stands, opened-settings, opened-terms, opened-keeps, in-use, bidding}
-use Rattle.promises.proofs.Offers.{Backed, round-backed, round-retained, cut-backed, closed-free, going-paid, denied-paid, retained-paid}
+use Rattle.promises.proofs.Offers.{Backed, round-backed, round-retained, cut-backed, closed-free, going-paid, denied-paid, retained-offered}
 use Rattle.promises.proofs.Closing.{award-is, paid-is}
 
 -- ---- on one product
@@ -52,11 +54,10 @@ step-backed S L same o b p B = B
 step-backed S L (card c ls) o b p B = λ hb hp. let K = B hb hp in record {
   going = K .going;
   denied = K .denied;
-  retained = K .retained;
+  lots = K .lots;
   own = K .own;
   price = K .price;
   before = K .before;
-  exit = K .exit;
 }
 step-backed {a} S L (cut targets caps u m) o b p B = λ hb hp.
     let t = cut-only a targets caps S u m .settings in
@@ -84,15 +85,13 @@ opened-backed t b p =
     let e = blank nothing 256 (place b p) in
     let g = ap goingIn e in
     let d = ap deniedIn e in
-    let r = ap retainedIn e in
     record {
       going = omega arith;
       denied = omega arith;
-      retained = omega arith;
+      lots = rw e (within-refl noLots);
       own = omega arith;
       price = λ h. absurd (let z : ⊥ = omega arith in z);
       before = λ h. absurd (let z : ⊥ = omega arith in z);
-      exit = λ h. absurd (let z : ⊥ = omega arith in z);
     }
 
 -- ---- over all products
@@ -118,7 +117,7 @@ step-once {a} S L (cut targets caps u m) past b hb O =
     let i = ap (λ t. initialOf t b) (C .settings) in
     let k = ap (λ t. sumUpTo (λ p. retainedIn (recordOf z b p)) (t .terms .products)) (C .settings) in
     let q = sum-ext (λ p. retainedIn (recordOf z b p)) (λ p. retainedIn (recordOf a b p)) (a .terms .products)
-    (λ p hp. C .retained b p (omega (arith, S .limits .bidders)) (omega (arith, S .limits .products))) in
+    (λ p hp. ap total (C .retained b p (omega (arith, S .limits .bidders)) (omega (arith, S .limits .products)))) in
     rw append-nil (record { whole = omega (arith, O .whole, C .eligible b hb); retained = omega (arith, O .retained); withdrawn = O .withdrawn })
 step-once {a} S L (round draw os u D F) past b hb O =
     let A = bids-accepted a S u in
@@ -196,17 +195,25 @@ module _ (s : List ℕ) (x : Settings) (new : openNumber s x ≡ 0) (e : length 
         parts = award-is end stands c b p nb np;
         going = K .going;
         denied = K .denied;
-        retained = K .retained;
+        retained = rw q (retained-offered (loaded end) S c b p nb np _ K);
         own = K .own;
         going-paid = rw q (going-paid (loaded end) S c b p nb np _ K);
         denied-paid = rw q (denied-paid (loaded end) S c b p nb np _ K);
-        retained-paid = rw q (retained-paid (loaded end) S c b p nb np _ K);
       }
 
   -- so that no more are awarded on a product than were ever offered there
   pub within-offers : (b p : ℕ) → b < termsOf x .bidders → p < termsOf x .products
       → awardOn (run (openedBy s x) cs) b p ≤ onOffer (rounds (openedBy s x) cs) b p .ever
-  within-offers b p hb hp = omega (arith, every-award-offered b p hb hp)
+  within-offers b p hb hp =
+      let A = every-award-offered b p hb hp in
+      omega (
+        arith,
+        A,
+        A .retained 0 (omega arith) .few,
+        A .retained 1 (omega arith) .few,
+        A .retained 2 (omega arith) .few,
+        A .retained 3 (omega arith) .few,
+      )
 
   -- over all products, each tranche of a bidder's initial eligibility is awarded once or given up once
   pub awarded-once : (b : ℕ) → b < termsOf x .bidders → AwardedOnce (setupOf x) (rounds (openedBy s x) cs) (run (openedBy s x) cs) b

@@ -4,45 +4,49 @@ use mathlib.Core.Bool.{Bool, true, false, _&&_, cond}
 use mathlib.Core.List.{List}
 use Prim.Native.Nat.{ℕ, zero, suc, _+_, _*_, _%_, _≤_, _<_}
 use native.Mathlib.Omega.{arith}
-use borrow.Author.Tests.{eqb-true, eqb-false, ltb-true, ltb-false, lt-ltb}
+use borrow.Author.Tests.{eqb-true, ltb-true, ltb-false}
 use lib.Dec.{eqb, ltb}
+use Rattle.rules.specs.declared.Lot.{Lot}
 use Rattle.rules.specs.declared.Tranches.{Tranches}
 use Rattle.rules.specs.declared.Place.{Place}
 use Rattle.rules.specs.declared.Auction.{Auction}
 use Rattle.rules.specs.declared.Chosen.{Chosen}
 use Rattle.rules.specs.Answers.{closed}
 use Rattle.rules.specs.Settings.{setup, targetOf}
-use Rattle.rules.specs.Held.{goingIn, deniedIn, retainedIn, exitIn, held, standingOf, aboveZero, ticked, freeOf, excess}
+use Rattle.rules.specs.Lots.{countOf, lotAt, total, Within, AllWithin}
+use Rattle.rules.specs.Held.{goingIn, deniedIn, retainedIn, held, standingOf, aboveZero, ticked, freeOf, excess}
 use Rattle.rules.specs.Bid.{withdrawnIn, recordOf, priceAt, beforeAt, bidOn}
 use Rattle.rules.specs.Accept.{placeAt, keptOf, deem}
 use Rattle.rules.specs.Outbid.{deemIf, deemedUpTo}
 use Rattle.rules.specs.Round.{drawFits, overridesFit, afterStep2, afterStep4, calculated}
-use Rattle.rules.specs.Report.{highestIn, highestUpTo, paidOn}
+use Rattle.rules.specs.Report.{paidOn}
 use Rattle.rules.specs.Cutback.{mayCut, revised, cutBack}
 use Rattle.rules.specs.Legal.{isOpen, openStands}
 use Rattle.rules.specs.Stands.{Stands, Long}
 use Rattle.rules.proofs.Sums.{sum-ge, and-right}
+use Rattle.rules.proofs.LotLaws.{within-trans}
 use Rattle.rules.proofs.Signed.{above-zero}
 use Rattle.rules.proofs.Places.{goingOf, deniedOf}
 use Rattle.laws.proofs.Outbidding.{deemed-exact}
 use Rattle.laws.proofs.Made.{AllAccepted}
 use Rattle.laws.proofs.Booked.{Booked, kept-end, trail, unticked, fresh, booked}
 use Rattle.laws.proofs.Settled.{settled-held, settled-record}
-use Rattle.laws.proofs.Round.{round-setup, round-prices}
+use Rattle.laws.proofs.Round.{round-setup, round-prices, round-lots}
 use Rattle.laws.proofs.Cutback.{cut-only, cut-price}
 use Rattle.promises.specs.Runs.{Round}
 use Rattle.promises.specs.Offered.{OnOffer, increaseLeft, offeringBy, offering}
+use Rattle.promises.specs.Demands.{LotOffered}
+use Rattle.promises.proofs.Paid.{paid-going, paid-denied, paid-retained}
 
 -- what bidder b holds of product p in the auction a is on offer in o
 pub record Backed (o : OnOffer) (a : Auction) (b p : ℕ) : Type 0 where
   pub going : goingIn (recordOf a b p) ≤ o .bid
   pub denied : deniedIn (recordOf a b p) ≤ o .switched
-  pub retained : retainedIn (recordOf a b p) ≤ o .withdrawn
-  pub own : o .bid + o .switched + o .withdrawn ≤ o .ever
+  pub lots : AllWithin (o .exits) (recordOf a b p .retained)
+  pub own : o .bid + o .switched + total (o .exits) ≤ o .ever
   pub price : 0 < goingIn (recordOf a b p)
       → (o .price ≤ beforeAt a p) × (held (a .records) (a .terms .bidders) p ≤ targetOf (setup a) p → o .price ≤ priceAt a p)
   pub before : 0 < deniedIn (recordOf a b p) → o .before ≤ beforeAt a p
-  pub exit : 0 < retainedIn (recordOf a b p) → o .exit ≡ exitIn (recordOf a b p)
 
 -- ---- one round
 
@@ -119,11 +123,10 @@ module _ (a : Auction) (draw : List ℕ) (os : List Chosen) (S : Stands a) (L : 
     pub record Left (v : OnOffer) : Type 0 where
       pub going : goingIn (at4 .holds) ≤ v .bid
       pub denied : deniedIn (at4 .holds) ≤ v .switched
-      pub retained : retainedIn (at4 .holds) ≤ v .withdrawn
-      pub own : v .bid + v .switched + v .withdrawn ≤ v .ever
+      pub lots : AllWithin (v .exits) (recordOf z b p .retained)
+      pub own : v .bid + v .switched + total (v .exits) ≤ v .ever
       pub price : v .price ≡ priceAt a p
       pub before : 0 < deniedIn (at4 .holds) → v .before ≤ beforeAt a p
-      pub exit : 0 < retainedIn (at4 .holds) → v .exit ≡ exitIn (at4 .holds)
 
     left-by : (s u : Bool) → ticked a p ≡ s → increaseLeft r b p ≡ u → at3 ≡ deemIf s at2
         → Left (offeringBy r b p s u o)
@@ -135,11 +138,10 @@ module _ (a : Auction) (draw : List ℕ) (os : List Chosen) (S : Stands a) (L : 
         record {
           going = omega arith;
           denied = omega (arith, K .going);
-          retained = omega arith;
+          lots = round-lots a draw os S L op D O A b p hb hp .of-the-bid e;
           own = omega (arith, K .going, K .own);
           price = omega arith;
           before = λ h. omega (arith, K .price (omega arith), S .prices p hp);
-          exit = λ h. sym (T .outed .exit h ∙ T .deemed .exit ∙ T .moved .exit-new (omega arith) ∙ T .made .leaves);
         }
     left-by false true e f d =
         let T = trail a draw S L op D A b p hb hp in
@@ -150,11 +152,10 @@ module _ (a : Auction) (draw : List ℕ) (os : List Chosen) (S : Stands a) (L : 
         record {
           going = omega (arith, K .denied);
           denied = omega arith;
-          retained = omega (arith, K .retained);
+          lots = within-trans _ _ _ (K .lots) (round-lots a draw os S L op D O A b p hb hp .of-the-record e);
           own = omega (arith, K .own);
           price = omega arith;
           before = λ h. absurd (let w : ⊥ = omega arith in w);
-          exit = λ h. K .exit (omega arith) ∙ sym (T .outed .exit h ∙ T .deemed .exit ∙ U .exit);
         }
     left-by false false e f d =
         let T = trail a draw S L op D A b p hb hp in
@@ -165,11 +166,10 @@ module _ (a : Auction) (draw : List ℕ) (os : List Chosen) (S : Stands a) (L : 
         record {
           going = omega arith;
           denied = omega (arith, K .denied);
-          retained = omega (arith, K .retained);
+          lots = within-trans _ _ _ (K .lots) (round-lots a draw os S L op D O A b p hb hp .of-the-record e);
           own = omega (arith, K .own);
           price = omega arith;
           before = λ h. K .before (omega arith);
-          exit = λ h. K .exit (omega arith) ∙ sym (T .outed .exit h ∙ T .deemed .exit ∙ U .exit);
         }
 
     -- a round carries it on
@@ -179,19 +179,16 @@ module _ (a : Auction) (draw : List ℕ) (os : List Chosen) (S : Stands a) (L : 
         let t = round-setup a draw os S L op D O A in
         let g = ap goingIn record-is in
         let d = ap deniedIn record-is in
-        let q = ap retainedIn record-is in
-        let x = ap exitIn record-is in
         let k = ap (λ u. held (z .records) (u .terms .bidders) p) t in
         let u = ap (λ u. targetOf u p) t in
         let v = price-for (isOpen z) (ltb (targetOf (setup a) p) (held (z .records) n p)) refl refl in
         record {
           going = omega (arith, X .going);
           denied = omega (arith, X .denied);
-          retained = omega (arith, X .retained);
+          lots = X .lots;
           own = X .own;
           price = λ h. rw (X .price) (v .0, λ l. v .1 (omega arith));
           before = λ h. let w = before-for (met (omega arith)) (isOpen z) refl in omega (arith, X .before (omega arith));
-          exit = λ h. X .exit (omega arith) ∙ sym x;
         }
 
 -- ---- a cutback: an offer before it counts
@@ -219,35 +216,19 @@ module _ (a : Auction) (targets caps : List Tranches) (S : Stands a) (op : isOpe
       let hp8 : p < 8 = omega (arith, S .limits .products) in
       let g = C .going b p hb8 hp8 in
       let d = C .denied b p hb8 hp8 in
-      let q = C .retained b p hb8 hp8 in
       record {
         going = omega (arith, K .going);
         denied = omega (arith, K .denied);
-        retained = omega (arith, K .retained);
+        lots = rw (C .retained b p hb8 hp8) (K .lots);
         own = K .own;
         price = λ h.
             let x = K .price (omega arith) in
             let y = S .prices p hp in
             (omega (arith, x, y, P .before), λ l. omega (arith, x, y, P .before, start-for (isOpen cut) refl l));
         before = λ h. let x = K .before (omega arith) in let y = S .prices p hp in omega (arith, y, P .before);
-        exit = λ h. K .exit (omega arith) ∙ sym (C .exit b p hb8 hp8);
       }
 
--- ---- the price paid
-
--- no record holds a tranche at more than the highest price
-highest-ge : (a : Auction) (p n b : ℕ) → b < n → highestIn (priceAt a p) (beforeAt a p) (recordOf a b p) ≤ highestUpTo a p n
-highest-ge a p zero b l = absurd (let x : ⊥ = omega arith in x)
-highest-ge a p (suc n) b l = by (eqb b n) refl (highest-ge a p n b)
-  where
-    by : (s : Bool) → eqb b n ≡ s → (b < n → highestIn (priceAt a p) (beforeAt a p) (recordOf a b p) ≤ highestUpTo a p n)
-        → highestIn (priceAt a p) (beforeAt a p) (recordOf a b p) ≤ highestUpTo a p (suc n)
-    by true e r = let x = ap (λ i. highestIn (priceAt a p) (beforeAt a p) (recordOf a i p)) (eqb-true b n e) in omega arith
-    by false e r = let d = eqb-false b n e in let x = r (omega (arith, d)) in omega arith
-
-paid-by : (v h q : ℕ) → 1 ≤ v → v ≤ h → (s : Bool) → eqb h 0 ≡ s → v ≤ cond s q h
-paid-by v h q l g true e = let x = eqb-true h 0 e in absurd (let y : ⊥ = omega arith in y)
-paid-by v h q l g false e = g
+-- ---- a closed auction
 
 closed-by : (x : ℕ) (u f e g : Bool) → x ≡ closed → cond (eqb x 1) u (f && cond (eqb x closed) e g) ≡ true → e ≡ true
 closed-by x u f e g q t =
@@ -268,33 +249,9 @@ module _ (a : Auction) (S : Stands a) where
       let e = eqb-true (excess a) 0 (closed-by (a .phase) (openStands a) (eqb (a .cards .filed) 0) (eqb (excess a) 0) _ c (S .phase)) in
       omega (arith, sum-ge (freeOf a) (a .terms .bidders) b hb)
 
-  module _ (b p : ℕ) (hb : b < a .terms .bidders) (hp : p < a .terms .products) where
-    paid : (v : ℕ) → 1 ≤ v → v ≤ highestIn (priceAt a p) (beforeAt a p) (recordOf a b p) → v ≤ paidOn a p
-    paid v l g =
-        let x = highest-ge a p (a .terms .bidders) b hb in
-        paid-by v (highestUpTo a p (a .terms .bidders)) (priceAt a p) l (omega arith) (eqb (highestUpTo a p (a .terms .bidders)) 0) refl
-
-    -- the price paid is at least p where g is held, q where d is, and the exit price where r is
-    pub paid-going : 0 < goingIn (recordOf a b p) → priceAt a p ≤ paidOn a p
-    paid-going h =
-        let e = ap (λ s. cond s (priceAt a p) 0) (lt-ltb 0 (goingIn (recordOf a b p)) h) in
-        paid (priceAt a p) (S .prices p hp .0) (omega arith)
-
-    pub paid-denied : 0 < deniedIn (recordOf a b p) → beforeAt a p ≤ paidOn a p
-    paid-denied h =
-        let e = ap (λ s. cond s (beforeAt a p) 0) (lt-ltb 0 (deniedIn (recordOf a b p)) h) in
-        let w = S .prices p hp in
-        paid (beforeAt a p) (omega (arith, w)) (omega arith)
-
-    pub paid-retained : 0 < retainedIn (recordOf a b p) → exitIn (recordOf a b p) ≤ paidOn a p
-    paid-retained h =
-        let e = ap (λ s. cond s (exitIn (recordOf a b p)) 0) (lt-ltb 0 (retainedIn (recordOf a b p)) h) in
-        let w = S .exits b p hb hp h in
-        paid (exitIn (recordOf a b p)) (omega (arith, w)) (omega arith)
-
 -- ---- an award
 
--- the three parts at no more than the price paid
+-- its parts at no more than the price paid
 module _ (a : Auction) (S : Stands a) (c : a .phase ≡ closed) (b p : ℕ) (hb : b < a .terms .bidders) (hp : p < a .terms .products)
     (o : OnOffer) (K : Backed o a b p) where
   pub going-paid : 0 < goingIn (recordOf a b p) → o .price ≤ paidOn a p
@@ -303,5 +260,14 @@ module _ (a : Auction) (S : Stands a) (c : a .phase ≡ closed) (b p : ℕ) (hb 
   pub denied-paid : 0 < deniedIn (recordOf a b p) → o .before ≤ paidOn a p
   denied-paid h = omega (arith, K .before h, paid-denied a S b p hb hp h)
 
-  pub retained-paid : 0 < retainedIn (recordOf a b p) → o .exit ≤ paidOn a p
-  retained-paid h = omega (arith, K .exit h, paid-retained a S b p hb hp h)
+  -- and each retained lot, of its own lot of the offer
+  lot-offered : (x r : Lot) → Within x r → (0 < countOf r → r .exit ≤ paidOn a p) → LotOffered x r (paidOn a p)
+  lot-offered x r w h =
+      record { few = w .few; own-price = w .price; exit-paid = λ l. omega (arith, w .price l, h l) }
+
+  pub retained-offered : (i : ℕ) → i < 4 → LotOffered (lotAt (o .exits) i) (lotAt (recordOf a b p .retained) i) (paidOn a p)
+  retained-offered zero l = lot-offered _ _ (K .lots .one) (paid-retained a S b p hb hp 0 l)
+  retained-offered (suc zero) l = lot-offered _ _ (K .lots .two) (paid-retained a S b p hb hp 1 l)
+  retained-offered (suc (suc zero)) l = lot-offered _ _ (K .lots .three) (paid-retained a S b p hb hp 2 l)
+  retained-offered (suc (suc (suc zero))) l = lot-offered _ _ (K .lots .four) (paid-retained a S b p hb hp 3 l)
+  retained-offered (suc (suc (suc (suc i)))) l = absurd (let x : ⊥ = omega arith in x)

@@ -23,7 +23,8 @@ use Rattle.rules.specs.Answers.{said, answerOf, cardSaid, countSaid, calculatio
 use Rattle.rules.specs.Parts.{row, noRow}
 use Rattle.rules.specs.Settings.{setup, noProduct, settingsFit, setupOf, targetOf, capOf}
 use Rattle.rules.specs.Bits.{bitAt, fieldAt, setIn, setBit, putField}
-use Rattle.rules.specs.Card.{line, noLine, readLines, readCard, putLines, cardOf, writeNumber, writeCard}
+use Rattle.rules.specs.Lots.{noLots, inOrder, exitsFit}
+use Rattle.rules.specs.Card.{line, noLine, readLines, readCard, putLot, putLots, putLine, putLines, cardOf, writeNumber, writeCard}
 use Rattle.rules.specs.Held.{excess}
 use Rattle.rules.specs.Bid.{judged}
 use Rattle.rules.specs.Keep.{keepLoop}
@@ -105,7 +106,7 @@ settingS = record {
 
 -- bidder 0 in round 1: two tranches of the first product
 unfoldable pub cardOf0 : List ℕ
-cardOf0 = 0 ∷ 0 ∷ 129 ∷ 0 ∷ 0 ∷ 0 ∷ 0 ∷ 0 ∷ 0 ∷ 0 ∷ 0 ∷ 0 ∷ []
+cardOf0 = 0 ∷ 0 ∷ 129 ∷ replicate 27 0
 
 unfoldable pub draw012 : List ℕ
 draw012 = 0 ∷ 1 ∷ 2 ∷ []
@@ -143,7 +144,7 @@ unfolding openCall
 open-answers = (rw new-opens, open-standing openBox settingS open-box .0)
 
 pub file-answers : (answerOf (fileCall openBox cardOf0 .answer) ≡ said 0 []) × (answerOf (fileCall openBox [] .answer) ≡ said 4 [])
-unfolding fileCall settingS cardOf0 opened setupOf allUpTo from judged readCard readLines fieldAt bitAt
+unfolding fileCall settingS cardOf0 opened setupOf allUpTo from inOrder exitsFit judged readCard readLines fieldAt bitAt
 file-answers = (rw (box-says 3 (cardNumber cardOf0)), rw (box-says 3 (cardNumber [])))
 
 none-kept : (calculated (opened (setupOf settingS)) draw012 [] .kept ≡ 0) × (calculated (opened (setupOf settingS)) draw012 [] .outbid ≡ 0)
@@ -207,10 +208,10 @@ pub read-answers : (cardSaid (readCall cardOf0 2 .card) ≡ said 0 (0 ∷ 1 ∷ 
 unfolding cardOf0 readCard readLines fieldAt bitAt
 read-answers = (refl, refl)
 
-pub write-answers : (answerOf (writeCall (replicate 12 0) 2 0 1 (line 2 0 0 0 ∷ replicate 7 noLine) .answer) ≡ said 0 [])
-    × (writeCall (replicate 12 0) 2 0 1 (line 2 0 0 0 ∷ replicate 7 noLine) .bytes ≡ cardOf0)
+pub write-answers : (answerOf (writeCall (replicate 30 0) 2 0 1 (line 2 noLots 0 ∷ replicate 7 noLine) .answer) ≡ said 0 [])
+    × (writeCall (replicate 30 0) 2 0 1 (line 2 noLots 0 ∷ replicate 7 noLine) .bytes ≡ cardOf0)
     × (answerOf (writeCall [] 2 0 1 (replicate 8 noLine) .answer) ≡ said 4 [])
-unfolding cardOf0 writeCard writeNumber cardOf putLines putField setBit setIn allUpTo
+unfolding cardOf0 writeCard writeNumber cardOf putLines putLine putLots putLot putField setBit setIn allUpTo
 write-answers = (refl, refl, refl)
 
 pub return-answers : (answerOf (returnCall openBox .answer) ≡ said 0 []) × (answerOf (returnCall [] .answer) ≡ said 1 [])
@@ -224,7 +225,7 @@ suggested-answers = (refl, refl)
 -- ---- a cutback, after a round 1 in which bidders 0 and 1 each bid two tranches of the first product
 
 unfoldable pub cardOf1 : List ℕ
-cardOf1 = 8 ∷ 0 ∷ 129 ∷ 0 ∷ 0 ∷ 0 ∷ 0 ∷ 0 ∷ 0 ∷ 0 ∷ 0 ∷ 0 ∷ []
+cardOf1 = 8 ∷ 0 ∷ 129 ∷ replicate 27 0
 
 -- what a call says of a box whose auction is known
 says-of : (s : List ℕ) → StandsIn s → (a : Auction) → loaded s ≡ a → (n : ℕ) (says : Auction → ℕ) → ofState s n says ≡ says a
@@ -237,7 +238,7 @@ abbrev auction1 : Auction
 auction1 = afterCard cardOf0 (opened (setupOf settingS))
 
 holds1 : loaded box1 ≡ auction1
-unfolding settingS cardOf0 opened setupOf allUpTo from judged readCard readLines fieldAt bitAt
+unfolding settingS cardOf0 opened setupOf allUpTo from inOrder exitsFit judged readCard readLines fieldAt bitAt
 holds1 = file-loaded openBox open-box cardOf0 (box-says 3 (cardNumber cardOf0)) ∙ ap (afterCard cardOf0) open-auction
 
 abbrev box2 : List ℕ
@@ -250,7 +251,7 @@ stands1 : StandsIn box1
 stands1 = file-stands openBox open-box cardOf0
 
 holds2 : loaded box2 ≡ auction2
-unfolding settingS cardOf0 cardOf1 opened setupOf allUpTo from judged readCard readLines fieldAt bitAt withCard setIn
+unfolding settingS cardOf0 cardOf1 opened setupOf allUpTo from inOrder exitsFit judged readCard readLines fieldAt bitAt withCard setIn
 holds2 = file-loaded box1 stands1 cardOf1 (says-of box1 stands1 auction1 holds1 3 (cardNumber cardOf1)) ∙ ap (afterCard cardOf1) holds1
 
 stands2 : StandsIn box2

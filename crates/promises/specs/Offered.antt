@@ -4,35 +4,40 @@ use mathlib.Core.Bool.{Bool, cond}
 use mathlib.Core.List.{List, [], _∷_}
 use Prim.Native.Nat.{ℕ, _+_, _*_, _-_, min}
 use lib.Dec.{ltb}
+use Rattle.rules.specs.declared.Lots.{Lots}
 use Rattle.rules.specs.Count.{sumUpTo}
+use Rattle.rules.specs.Lots.{noLots}
 use Rattle.rules.specs.Held.{goingIn, deniedIn, ticked, freeOf}
-use Rattle.rules.specs.Bid.{bidIn, withdrawnIn as withdrawnOn, exitOn, recordOf, bidOn, priceAt}
+use Rattle.rules.specs.Bid.{bidIn, withdrawnIn as withdrawnOn, recordOf, bidOn, priceAt}
 use Rattle.rules.specs.Accept.{placeAt, riseOf}
 use Rattle.rules.specs.Round.{afterStep2}
 use Rattle.promises.specs.Runs.{Round}
 
--- Each tranche on offer is counted in one of three numbers, and only there: those bid or deemed bid in the last round, at its going
--- price; and of those that were bid and are bid no longer, the ones withdrawn, at their exit price, and the others, at the price at
--- which they were last bid. `ever` counts those ever offered, each in the round in which it was newly bid.
+-- Each tranche on offer is counted in one of three parts, and only there: those bid or deemed bid in the last round, at its going
+-- price; and of those that were bid and are bid no longer, the ones withdrawn, in the four lots of that withdrawal, each lot at its exit
+-- price, and the others, at the price at which they were last bid. `ever` counts those ever offered, each in the round in which it was newly
+-- bid.
 pub record OnOffer : Type 0 where
   pub bid : ℕ
   pub price : ℕ
   pub switched : ℕ
   pub before : ℕ
-  pub withdrawn : ℕ
-  pub exit : ℕ
+  pub exits : Lots
   pub ever : ℕ
 
 abbrev pub noOffer : OnOffer
-noOffer = record { bid = 0; price = 0; switched = 0; before = 0; withdrawn = 0; exit = 0; ever = 0 }
+noOffer = record { bid = 0; price = 0; switched = 0; before = 0; exits = noLots; ever = 0 }
 
 module _ (r : Round) (b p : ℕ) where
-  -- the tranches of its card, or of its default bid; those that it withdraws
+  -- the tranches of its card, or of its default bid; those that it withdraws, and their lots
   abbrev pub tranchesBid : ℕ
   tranchesBid = bidIn (bidOn (r .auction) b p)
 
   abbrev pub tranchesWithdrawn : ℕ
   tranchesWithdrawn = withdrawnOn (bidOn (r .auction) b p)
+
+  abbrev pub lotsWithdrawn : Lots
+  lotsWithdrawn = bidOn (r .auction) b p .withdrawn
 
   -- an increase left after step 2
   abbrev pub increaseLeft : Bool
@@ -51,8 +56,7 @@ module _ (r : Round) (b p : ℕ) where
     price = priceAt (r .auction) p;
     switched = cond tick (o .bid - tranchesBid - tranchesWithdrawn) (cond left 0 (o .switched));
     before = cond tick (o .price) (o .before);
-    withdrawn = cond tick tranchesWithdrawn (o .withdrawn);
-    exit = cond tick (exitOn (bidOn (r .auction) b p)) (o .exit);
+    exits = cond tick lotsWithdrawn (o .exits);
     ever = o .ever + (tranchesBid - o .bid);
   }
 

@@ -2,13 +2,12 @@
 ghost use Prim.Native.Nat.{_<_};
 ghost use Rattle.book.specs.Lent.{Lent};
 use crate::cards::of_read;
+use crate::exits::put_exit;
 use crate::of_phase;
 use crate::phases::put_bidder;
-use crate::put_allowed;
 use crate::wide;
 use bids::Kept;
 use bids::Sums;
-use bids::exit_limits;
 use bids::numbers_of;
 use bids::reduction;
 use bids::tally_of;
@@ -64,7 +63,7 @@ fn put_cap(
         p as u64,
         l.tranches.0 as u64,
         r.denied.0 as u64,
-        r.retained.count.0 as u64,
+        r.retained.total() as u64,
         book::cap(s, p).0 as u64,
     ];
     put_form(out, at, b": product %, # + # + # against #", &numbers)
@@ -85,42 +84,14 @@ fn put_reduced(out: &mut [u8; ANSWER], at: usize, p: usize, r: Record, l: Line) 
 // 11, of one product
 fn put_leaving(out: &mut [u8; ANSWER], at: usize, p: usize, r: Record, l: Line) -> usize {
     let reduced = reduction(r, l) as u64;
-    let numbers = [p as u64, l.withdrawn.count.0 as u64, reduced, reduced];
+    let withdrawn = l.withdrawn.total() as u64;
+    let numbers = [p as u64, withdrawn, reduced, reduced];
     put_form(
         out,
         at,
         b": product %, # withdrawn where the reduction is #; at most # are allowed",
         &numbers,
     )
-}
-
-// 12
-fn put_exit(out: &mut [u8; ANSWER], at: usize, s: &[u8; STATE], p: usize, l: Line) -> usize
-    requires { ⌜ p < 8 ⌝ }
-{
-    let price = book::price(s, p);
-    let before = book::before(s, p);
-    let numbers = [
-        p as u64,
-        l.withdrawn.exit as u64,
-        price.amount() as u64,
-        before.amount() as u64,
-    ];
-    if l.withdrawn.count.0 == 0 {
-        return put_form(
-            out,
-            at,
-            b": product %, exit # where nothing is withdrawn; 0 is allowed",
-            &numbers,
-        );
-    }
-    let a = put_form(
-        out,
-        at,
-        b": product %, exit # where # is the price and # the price before",
-        &numbers,
-    );
-    put_allowed(out, a, exit_limits(price, before))
 }
 
 // 13, of one product
@@ -159,7 +130,7 @@ fn put_product(
         8 => put_cap(out, at, s, p, r, l),
         9 => put_reduced(out, at, p, r, l),
         11 => put_leaving(out, at, p, r, l),
-        12 => put_exit(out, at, s, p, l),
+        12 => put_exit(out, at, s, p, l.withdrawn),
         13 => put_priority(out, at, p, l, switched),
         _ => at,
     }

@@ -1,4 +1,5 @@
 // A card and its fields: 4, 5, 29 and 30.
+use crate::put_allowed;
 use crate::put_outside;
 use card::MOST_BIDDER;
 use card::MOST_EXIT;
@@ -7,7 +8,10 @@ use card::MOST_ROUND;
 use card::MOST_TRANCHES;
 use card::field_limits;
 use card::up_to;
+use rules::Limits;
 use rules::Line;
+use rules::Lot;
+use rules::Lots;
 use text::ANSWER;
 use text::put;
 use text::put_hex;
@@ -61,42 +65,86 @@ pub fn of_read(out: &mut [u8; ANSWER], at: usize, n: u8, card: &[u8], products: 
     }
 }
 
+// A number of a lot that its limits do not hold, by its form; the place where they do.
+fn put_outside_lot(
+    out: &mut [u8; ANSWER],
+    at: usize,
+    form: &[u8],
+    p: usize,
+    i: usize,
+    x: u32,
+    allowed: Limits,
+) -> usize {
+    if allowed.holds(x) {
+        return at;
+    }
+    let lot = std::num::wrapping_add_u64(i as u64, 1);
+    let numbers = [p as u64, lot, x as u64];
+    let a = put_form(out, at, form, &numbers);
+    put_allowed(out, a, allowed)
+}
+
+fn put_lot(
+    out: &mut [u8; ANSWER],
+    at: usize,
+    products: usize,
+    p: usize,
+    i: usize,
+    l: Lot,
+) -> usize {
+    let a = put_outside_lot(
+        out,
+        at,
+        b": product %, lot #, withdrawn #",
+        p,
+        i,
+        l.count.0 as u32,
+        field_limits(products, p, MOST_TRANCHES),
+    );
+    if a != at {
+        return a;
+    }
+    put_outside_lot(
+        out,
+        at,
+        b": product %, lot #, exit #",
+        p,
+        i,
+        l.exit,
+        field_limits(products, p, MOST_EXIT),
+    )
+}
+
+// The first lot that does not fit.
+fn put_lots(out: &mut [u8; ANSWER], at: usize, products: usize, p: usize, l: Lots) -> usize {
+    let mut i: usize = 0;
+    while i < 4 {
+        let to = put_lot(out, at, products, p, i, l.at(i));
+        if to != at {
+            return to;
+        }
+        i += 1;
+    }
+    at
+}
+
 // The first field of a line that does not fit.
 fn put_line(out: &mut [u8; ANSWER], at: usize, products: usize, p: usize, l: Line) -> usize {
     let place = p as u64;
-    let of_tranches = field_limits(products, p, MOST_TRANCHES);
     let a = put_outside(
         out,
         at,
         b": product %, tranches #",
         place,
         l.tranches.0 as u32,
-        of_tranches,
+        field_limits(products, p, MOST_TRANCHES),
     );
     if a != at {
         return a;
     }
-    let b = put_outside(
-        out,
-        at,
-        b": product %, withdrawn #",
-        place,
-        l.withdrawn.count.0 as u32,
-        of_tranches,
-    );
+    let b = put_lots(out, at, products, p, l.withdrawn);
     if b != at {
         return b;
-    }
-    let c = put_outside(
-        out,
-        at,
-        b": product %, exit #",
-        place,
-        l.withdrawn.exit,
-        field_limits(products, p, MOST_EXIT),
-    );
-    if c != at {
-        return c;
     }
     put_outside(
         out,

@@ -5,6 +5,7 @@ mod bidding;
 mod cards;
 mod cutting;
 mod drawing;
+mod exits;
 mod opening;
 mod phases;
 

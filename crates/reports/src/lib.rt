@@ -7,12 +7,14 @@ ghost use Rattle.rules.specs.Count.{listOf};
 ghost use Rattle.rules.specs.Units.{priceOf, quote, goingPrice, tranches};
 ghost use Rattle.rules.specs.Held.{heldIn, recordAt};
 ghost use Rattle.rules.specs.Bid.{recordOf};
-ghost use Rattle.rules.specs.Report.{goingOn, reportOn, reportRefused, priceIf, highestIn, highestUpTo, paidOn, resultOf, resultRefused};
+ghost use Rattle.rules.specs.Report.{goingOn, reportOn, reportRefused, priceIf, exitIf, highestLot, highestIn, highestUpTo, paidOn, resultOf, resultRefused};
 ghost use Rattle.rules.specs.Layout.{loaded};
 ghost use Rattle.book.specs.Lent.{Long, Lent};
 use rules::Award;
 use rules::Awarded;
 use rules::GoingPrice;
+use rules::Lot;
+use rules::Lots;
 use rules::Phase;
 use rules::Price;
 use rules::Quote;
@@ -126,15 +128,35 @@ fn price_if(n: Tranches, x: Price) -> Price
     Price::of(x.unit(), 0)
 }
 
+// A lot's price, in that unit; 0 where it is not used.
+fn exit_of(unit: u8, l: Lot) -> Price
+    ensures { λ o. ⌜ o ≡ priceOf unit (exitIf l) ⌝ }
+{
+    let exit = Price::of(unit, l.exit);
+    if l.count.0 > 0 {
+        return exit;
+    }
+    Price::of(unit, 0)
+}
+
+// The highest price of the lots, each looked at.
+fn highest_lot(unit: u8, l: Lots) -> Price
+    ensures { λ o. ⌜ o ≡ priceOf unit (highestLot l) ⌝ }
+{
+    let one = exit_of(unit, l.one);
+    let two = exit_of(unit, l.two);
+    let three = exit_of(unit, l.three);
+    let four = exit_of(unit, l.four);
+    higher(one, higher(two, higher(three, four)))
+}
+
 // The highest price at which a record holds a tranche.
 fn highest_in(price: Price, before: Price, r: Record) -> Price
     ensures { λ o. ⌜ ((u p q : ℕ) → price ≡ priceOf u p → before ≡ priceOf u q → o ≡ priceOf u (highestIn p q r)) ⌝ }
 {
     let g = price_if(r.going, price);
     let d = price_if(r.denied, before);
-    let exit = Price::of(price.unit(), r.retained.exit);
-    let w = price_if(r.retained.count, exit);
-    higher(g, higher(d, w))
+    higher(g, higher(d, highest_lot(price.unit(), r.retained)))
 }
 
 fn highest(s: &[u8], p: usize) -> Price

@@ -13,9 +13,10 @@ use Rattle.rules.specs.declared.Record.{Record}
 use Rattle.rules.specs.declared.Place.{Place}
 use Rattle.rules.specs.declared.Auction.{Auction}
 use Rattle.rules.specs.Count.{allUpTo, firstUpTo, isAt}
+use Rattle.rules.specs.Lots.{countOf}
 use Rattle.rules.specs.Card.{noLine}
-use Rattle.rules.specs.Held.{entry, goingIn, deniedIn, retainedIn, exitIn, recordAt, place, ticked}
-use Rattle.rules.specs.Bid.{bidIn, withdrawnIn, exitOn, reduction, increase, recordOf, beforeAt, hasFiled, defaultLine, bidOn}
+use Rattle.rules.specs.Held.{entry, goingIn, deniedIn, retainedIn, recordAt, place, ticked}
+use Rattle.rules.specs.Bid.{bidIn, withdrawnIn, reduction, increase, recordOf, beforeAt, hasFiled, defaultLine, bidOn}
 use Rattle.rules.specs.Accept.{at, nowhere, placeAt, accepted, acceptedAll}
 use Rattle.rules.specs.Round.{drawn, drawFits}
 use Rattle.rules.proofs.Sums.{and-left, and-right}
@@ -25,14 +26,14 @@ use Rattle.held.specs.Ticks.{isOne}
 use Rattle.table.specs.Room.{Fits, Room}
 use Rattle.rules.specs.Stands.{Stands}
 use Rattle.rules.proofs.Tests.{told}
+use Rattle.rules.proofs.LotLaws.{one-total}
 use Rattle.rules.proofs.Fitting.{record-small, lines-fit}
 use Rattle.held.specs.Ticks.{Ticks}
 
 -- a place whose switches and increases are the bid's
 pub accepted-with : (r : Record) (l : Line) (s i : ℕ) → s ≡ reduction r l - withdrawnIn l → i ≡ increase r l
-    → at (entry (bidIn l) (deniedIn r) (retainedIn r) (exitIn r)) (withdrawnIn l) (exitOn l) s i (l .priority) ≡ accepted r l
-accepted-with r l s i e f =
-    ap₂ (λ s i. at (entry (bidIn l) (deniedIn r) (retainedIn r) (exitIn r)) (withdrawnIn l) (exitOn l) s i (l .priority)) e f
+    → at (entry (bidIn l) (deniedIn r) (r .retained)) (l .withdrawn) s i (l .priority) ≡ accepted r l
+accepted-with r l s i e f = ap₂ (λ s i. at (entry (bidIn l) (deniedIn r) (r .retained)) (l .withdrawn) s i (l .priority)) e f
 
 whole : (k : ℕ) → k ≡ place (k / 8) (k % 8)
 whole k = sym (div-add-mod' k 8)
@@ -56,11 +57,11 @@ accepted-here a ticks T k lt l x e₁ e₂ e₃ e₄ e f = accepted-at a ticks T
 -- ---- room
 
 Little : Line → Type 0
-Little l = (bidIn l ≤ 255) × (withdrawnIn l ≤ 255)
+Little l = (bidIn l ≤ 255) × (withdrawnIn l ≤ 1020)
 
 little-default : (tick : Bool) (q : ℕ) (r : Record) → goingIn r ≤ 255 → Little (defaultLine tick q r)
 unfolding Little
-little-default true q r h = (omega arith, h)
+little-default true q r h = (omega arith, omega (arith, one-total (goingIn r) q))
 little-default false q r h = (h, omega arith)
 
 little-cond : (filed : Bool) (l m : Line) → Little l → Little m → Little (cond filed l m)
@@ -75,8 +76,15 @@ module _ (a : Auction) (S : Stands a) where
   bid-small : (k : ℕ) → k < 256 → bidIn (getD (a .cards .lines) k noLine) < 256
   bid-small k h = let e = lines-fit a S k h in search told
 
-  withdrawn-small : (k : ℕ) → k < 256 → withdrawnIn (getD (a .cards .lines) k noLine) < 256
-  withdrawn-small k h = let e = lines-fit a S k h in search told
+  withdrawn-small : (k : ℕ) → k < 256 → withdrawnIn (getD (a .cards .lines) k noLine) ≤ 1020
+  withdrawn-small k h =
+      let e = lines-fit a S k h in
+      let l = getD (a .cards .lines) k noLine .withdrawn in
+      let n1 : countOf (l .one) < 256 = search told in
+      let n2 : countOf (l .two) < 256 = search told in
+      let n3 : countOf (l .three) < 256 = search told in
+      let n4 : countOf (l .four) < 256 = search told in
+      omega arith
 
   fits-place : (k : ℕ) → place (k / 8) (k % 8) < 256 → Fits (accepted (recordOf a (k / 8) (k % 8)) (bidOn a (k / 8) (k % 8)))
   unfolding Little

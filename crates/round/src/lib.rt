@@ -20,7 +20,6 @@ use prices::Lanes;
 use rules::CLOSED;
 use rules::Chosen;
 use rules::Line;
-use rules::Lot;
 use rules::OPEN;
 use rules::Place;
 use rules::Price;
@@ -47,21 +46,17 @@ fn accept(r: Record, l: Line) -> Place
     ensures { λ x. ⌜ x ≡ accepted r l ⌝ }
 {
     let reduced = bids::reduction(r, l);
-    let moving = bids::less(reduced, l.withdrawn.count.0 as u32);
+    let moving = bids::less(reduced, l.withdrawn.total());
     let rise = bids::increase(r, l);
+    let retained = r.retained;
+    let leaving = l.withdrawn;
     Place {
         holds: Record {
             going: Tranches(l.tranches.0),
             denied: Tranches(r.denied.0),
-            retained: Lot {
-                count: Tranches(r.retained.count.0),
-                exit: r.retained.exit,
-            },
+            retained,
         },
-        leaving: Lot {
-            count: Tranches(l.withdrawn.count.0),
-            exit: l.withdrawn.exit,
-        },
+        leaving,
         moving: Tranches(moving as u16),
         rise: Tranches(rise as u16),
         priority: l.priority,

@@ -1,5 +1,5 @@
 -- Every field of a standing state fits its bytes, so that what is stored of one is loaded. Assumes nothing.
-use mathlib.Core.Path.{_≡_, refl, subst}
+use mathlib.Core.Path.{_≡_, refl, ap, subst}
 use mathlib.Core.Bool.{Bool, true, false, cond}
 use mathlib.Core.List.{List}
 use Prim.Native.Nat.{ℕ, _+_, _*_, _/_, _%_, _≤_, _<_}
@@ -7,14 +7,16 @@ use native.Mathlib.Omega.{arith}
 use borrow.Author.Tests.{eqb-true, ltb-true, ltb-false, le-ltb}
 use lib.ListN.{getD}
 use lib.Dec.{eqb, ltb}
+use Rattle.rules.specs.declared.Lots.{Lots}
 use Rattle.rules.specs.declared.Line.{Line}
 use Rattle.rules.specs.declared.Record.{Record}
 use Rattle.rules.specs.declared.Auction.{Auction}
 use Rattle.rules.specs.Answers.{closed, stopped}
 use Rattle.rules.specs.Settings.{setup, targetOf, capOf, startOf, initialOf, decrementOf}
-use Rattle.rules.specs.Card.{noLine, lineFits, lineZero}
-use Rattle.rules.specs.Held.{goingIn, deniedIn, retainedIn, exitIn, heldIn, recordAt, place, ticked, freeOf}
-use Rattle.rules.specs.Bid.{bidIn, withdrawnIn, exitOn, recordOf, priceAt, beforeAt, markAt, onProduct, judged, hasFiled, slotOf}
+use Rattle.rules.specs.Lots.{total, countOf, lotsZero}
+use Rattle.rules.specs.Card.{noLine, lotsFit, lineFits, lineZero}
+use Rattle.rules.specs.Held.{goingIn, deniedIn, heldIn, recordAt, place, ticked, freeOf}
+use Rattle.rules.specs.Bid.{bidIn, recordOf, priceAt, beforeAt, markAt, onProduct, judged, hasFiled, slotOf}
 use Rattle.rules.specs.Legal.{isOpen, recordZero, zeroFrom}
 use Rattle.rules.specs.Layout.{stored, loaded}
 use Rattle.rules.proofs.Sums.{sum-le}
@@ -24,18 +26,45 @@ use Rattle.rules.proofs.Tests.{told, shown}
 use Rattle.rules.specs.Stands.{Long, Stands, Accepted}
 use Rattle.rules.proofs.Judged.{judged-take}
 use Rattle.rules.proofs.Priorities.{sum-const, priority-small}
-use Rattle.rules.proofs.Storing.{Fits, loads}
+use Rattle.rules.proofs.LotLaws.{Most, exits-most, zero-none}
+use Rattle.rules.proofs.Storing.{LotsFit, Fits, loads}
 
-fits-if : (l : Line) → bidIn l < 256 → withdrawnIn l < 256 → exitOn l < 131072 → l .priority < 8 → lineFits l ≡ true
-fits-if l b w x p = search shown
+-- lots of no more than a byte's tranches fit a card
+lots-fit : (q : ℕ) (l : Lots) → q < 131072 → total l < 256 → Most q l → lotsFit l ≡ true
+lots-fit q l h n x =
+    let n1 : countOf (l .one) < 256 = omega arith in
+    let n2 : countOf (l .two) < 256 = omega arith in
+    let n3 : countOf (l .three) < 256 = omega arith in
+    let n4 : countOf (l .four) < 256 = omega arith in
+    let x1 : l .one .exit < 131072 = omega (arith, x .one) in
+    let x2 : l .two .exit < 131072 = omega (arith, x .two) in
+    let x3 : l .three .exit < 131072 = omega (arith, x .three) in
+    let x4 : l .four .exit < 131072 = omega (arith, x .four) in
+    search shown
+
+fits-if : (l : Line) → bidIn l < 256 → lotsFit (l .withdrawn) ≡ true → l .priority < 8 → lineFits l ≡ true
+fits-if l b w p = search shown
 
 zero-fits : (l : Line) → lineZero l ≡ true → lineFits l ≡ true
 zero-fits l z =
     let b : bidIn l ≡ 0 = search told in
-    let w : withdrawnIn l ≡ 0 = search told in
-    let x : exitOn l ≡ 0 = search told in
+    let w : lotsZero (l .withdrawn) ≡ true = search told in
     let p : l .priority ≡ 0 = search told in
-    fits-if l (omega arith) (omega arith) (omega arith) (omega arith)
+    fits-if l (omega arith) (ap lotsFit (zero-none (l .withdrawn) w)) (omega arith)
+
+-- lots that fit a card fit their bytes
+bytes-fit : (l : Lots) → lotsFit l ≡ true → LotsFit l
+bytes-fit l e =
+    let x1 : l .one .exit < 131072 = search told in
+    let x2 : l .two .exit < 131072 = search told in
+    let x3 : l .three .exit < 131072 = search told in
+    let x4 : l .four .exit < 131072 = search told in
+    record {
+      one = (search told, omega arith);
+      two = (search told, omega arith);
+      three = (search told, omega arith);
+      four = (search told, omega arith);
+    }
 
 -- a line past those in use
 past-fits : (ls : List Line) (n : ℕ) → zeroFrom ls n ≡ true → (p : ℕ) → n ≤ p → p < 8 → lineFits (onProduct ls p) ≡ true
@@ -43,12 +72,6 @@ past-fits ls n z p h l =
     zero-fits (onProduct ls p) (rw (le-ltb p n h) at (all-take (λ p. cond (ltb p n) true (lineZero (onProduct ls p))) 8 z p l))
 
 module _ (a : Auction) (S : Stands a) where
-  exit-by : (b p : ℕ) (ls : List Line)
-      → Accepted (a .terms .products) (ticked a) (capOf (setup a)) (priceAt a) (beforeAt a) (recordOf a b) (onProduct ls) (freeOf a b)
-      → p < a .terms .products → (t : Bool) → ltb 0 (withdrawnIn (onProduct ls p)) ≡ t → exitOn (onProduct ls p) < 131072
-  exit-by b p ls A h true e = omega (arith, A .exits p h (ltb-true _ _ e), S .prices p h, S .limits .start p h)
-  exit-by b p ls A h false e = omega (arith, A .no-exit p h (omega (arith, ltb-false 0 (withdrawnIn (onProduct ls p)) e)))
-
   -- a line that is accepted
   accepted-fits : (b p : ℕ) (ls : List Line) → b < a .terms .bidders → p < a .terms .products → judged a b ls ≡ 0
       → lineFits (onProduct ls p) ≡ true
@@ -59,7 +82,9 @@ module _ (a : Auction) (S : Stands a) where
       let h = S .caps b p hb hp in
       let m = S .limits .cap p hp in
       let t = S .limits .target p hp in
-      fits-if (onProduct ls p) (omega arith) (omega arith) (exit-by b p ls A hp (ltb 0 (withdrawnIn (onProduct ls p))) refl)
+      let x = exits-most (priceAt a p) (beforeAt a p) (onProduct ls p .withdrawn) (A .exits p hp) in
+      fits-if (onProduct ls p) (omega arith)
+      (lots-fit (beforeAt a p) (onProduct ls p .withdrawn) (omega (arith, S .prices p hp, S .limits .start p hp)) (omega arith) x)
       (priority-small A (S .limits .products) p hp)
 
   slot-by : (b p : ℕ) → b < 32 → p < 8 → (t u : Bool) → hasFiled a b ≡ t → ltb p (a .terms .products) ≡ u
@@ -120,34 +145,32 @@ module _ (a : Auction) (S : Stands a) where
   decrement-by i h false e = omega (arith, S .limits .no-row i (ltb-false _ _ e) h)
 
   abbrev Small : Record → Type 0
-  Small r = (heldIn r ≤ 200) × (exitIn r ≤ 99999)
+  Small r = (heldIn r ≤ 200) × (lotsFit (r .retained) ≡ true)
 
   zero-small : (r : Record) → recordZero r ≡ true → Small r
   zero-small r z =
       let g : goingIn r ≡ 0 = search told in
       let d : deniedIn r ≡ 0 = search told in
-      let n : retainedIn r ≡ 0 = search told in
-      let x : exitIn r ≡ 0 = search told in
-      omega arith
+      let e = zero-none (r .retained) (search told) in
+      let n = ap total e in
+      (omega arith, ap lotsFit e)
 
-  exit-of : (b p : ℕ) → b < a .terms .bidders → p < a .terms .products → (t : Bool) → ltb 0 (retainedIn (recordOf a b p)) ≡ t
-      → Small (recordOf a b p)
-  exit-of b p hb hp true e =
-      omega (arith, S .exits b p hb hp (ltb-true _ _ e), S .prices p hp, S .limits .start p hp, S .caps b p hb hp, S .limits .cap p hp, S .limits .target p hp)
-  exit-of b p hb hp false e =
-      omega (arith, S .no-exit b p hb hp (omega (arith, ltb-false 0 (retainedIn (recordOf a b p)) e)), S .caps b p hb hp, S .limits .cap p hp, S .limits .target p hp)
+  record-of : (b p : ℕ) → b < a .terms .bidders → p < a .terms .products → Small (recordOf a b p)
+  record-of b p hb hp =
+      let c : heldIn (recordOf a b p) ≤ 200 = omega (arith, S .caps b p hb hp, S .limits .cap p hp, S .limits .target p hp) in
+      let x = exits-most (priceAt a p) (beforeAt a p) (recordOf a b p .retained) (S .exits b p hb hp) in
+      (c, lots-fit (beforeAt a p) (recordOf a b p .retained) (omega (arith, S .prices p hp, S .limits .start p hp)) (omega arith) x)
 
   record-by : (k : ℕ) → k < 256 → (t u : Bool) → ltb (k / 8) (a .terms .bidders) ≡ t → ltb (k % 8) (a .terms .products) ≡ u
       → Small (recordAt (a .records) k)
   record-by k l true true e f =
       let z : k / 8 * 8 + k % 8 ≡ k = omega arith in
-      subst (λ i. Small (recordAt (a .records) i)) z
-      (exit-of (k / 8) (k % 8) (ltb-true _ _ e) (ltb-true _ _ f) (ltb 0 (retainedIn (recordOf a (k / 8) (k % 8)))) refl)
+      subst (λ i. Small (recordAt (a .records) i)) z (record-of (k / 8) (k % 8) (ltb-true _ _ e) (ltb-true _ _ f))
   record-by k l true false e f = zero-small (recordAt (a .records) k) (S .no-product k l (ltb-false _ _ f))
   record-by k l false u e f = zero-small (recordAt (a .records) k) (S .no-bidder k l (ltb-false _ _ e))
 
   -- of one record
-  pub record-small : (k : ℕ) → k < 256 → (heldIn (recordAt (a .records) k) ≤ 200) × (exitIn (recordAt (a .records) k) ≤ 99999)
+  pub record-small : (k : ℕ) → k < 256 → (heldIn (recordAt (a .records) k) ≤ 200) × (lotsFit (recordAt (a .records) k .retained) ≡ true)
   record-small k h = record-by k h (ltb (k / 8) (a .terms .bidders)) (ltb (k % 8) (a .terms .products)) refl refl
 
   phase-by : (t u : Bool) → isOpen a ≡ t → eqb (a .phase) closed ≡ u → (1 ≤ a .phase) × (a .phase ≤ 3)
@@ -163,7 +186,7 @@ module _ (a : Auction) (S : Stands a) where
   phase-small = phase-by (isOpen a) (eqb (a .phase) closed) refl refl
 
   line-small : (k : ℕ) → k < 256
-      → (bidIn (getD (a .cards .lines) k noLine) < 256) × (withdrawnIn (getD (a .cards .lines) k noLine) < 256) × (exitOn (getD (a .cards .lines) k noLine) < 131072) × (getD (a .cards .lines) k noLine .priority < 8)
+      → (bidIn (getD (a .cards .lines) k noLine) < 256) × (lotsFit (getD (a .cards .lines) k noLine .withdrawn) ≡ true) × (getD (a .cards .lines) k noLine .priority < 8)
   line-small k h = let x = lines-fit k h in search told
 
   -- the fields of a standing state fit their bytes; of the bitmap it is said, since its bits past 32 are no bidder's
@@ -189,12 +212,10 @@ module _ (a : Auction) (S : Stands a) where
     decrement = λ i l. omega (arith, decrement-by i l (ltb i (a .decrements .rows)) refl);
     going = λ k l. omega (arith, record-small k l);
     denied = λ k l. omega (arith, record-small k l);
-    retained = λ k l. omega (arith, record-small k l);
-    exit = λ k l. omega (arith, record-small k l);
+    retained = λ k l. bytes-fit (recordAt (a .records) k .retained) (record-small k l .1);
     bid = λ k l. line-small k l .0;
-    withdrawn = λ k l. line-small k l .1;
-    leaving = λ k l. omega (arith, line-small k l);
-    priority = λ k l. omega (arith, line-small k l);
+    withdrawn = λ k l. bytes-fit (getD (a .cards .lines) k noLine .withdrawn) (line-small k l .1);
+    priority = λ k l. omega (arith, line-small k l .2);
   }
 
   -- a standing state that is stored is loaded

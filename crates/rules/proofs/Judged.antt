@@ -13,10 +13,11 @@ use Rattle.rules.specs.Count.{sumUpTo, allUpTo}
 use Rattle.rules.specs.Parts.{table, cards, auction}
 use Rattle.rules.specs.Settings.{setup, capOf}
 use Rattle.rules.specs.Held.{goingIn, ticked, freeOf}
-use Rattle.rules.specs.Bid.{bidIn, withdrawnIn, exitOn, reduction, increase, reductions, increases, withdrawals, overCap, wrongReduction, overEligible, wrongWithdrawn, wrongExit, increased, numbered, oneIf, wrongPriority, recordOf, priceAt, beforeAt, onProduct, judged}
+use Rattle.rules.specs.Bid.{bidIn, withdrawnIn, reduction, increase, reductions, increases, withdrawals, overCap, wrongReduction, overEligible, wrongWithdrawn, wrongExit, increased, numbered, oneIf, wrongPriority, recordOf, priceAt, beforeAt, onProduct, judged}
 use Rattle.rules.proofs.Sums.{sum-ext, sum-six, and-left}
 use Rattle.rules.proofs.Lists.{both, all-give, all-take, all-ext}
-use Rattle.rules.proofs.Tests.{told, shown, sure-false}
+use Rattle.rules.proofs.Tests.{told, sure-false}
+use Rattle.rules.proofs.LotLaws.{exits-take, exits-give}
 use Rattle.rules.specs.Stands.{Accepted}
 
 -- a number not given
@@ -68,15 +69,9 @@ module _ (m : ℕ) (tick : ℕ → Bool) (cap price before : ℕ → ℕ) (r : �
         eligible = fits;
         withdrawn = λ p h. leb-true _ _ (all-take _ m (and-left _ _ w) p h);
         total = omega (arith, balance);
-        exits = λ p h t. let x = rw (lt-ltb 0 (withdrawnIn (l p)) t) at (none-wrong _ m (p12 .0) p h) in search told;
-        no-exit = λ p h t. let x = rw t at (none-wrong _ m (p12 .0) p h) in search told;
+        exits = λ p h. exits-take (price p) (before p) (l p .withdrawn) (none-wrong _ m (p12 .0) p h);
         numbered = p13 .0;
       }
-
-  exit-by : Accepted m tick cap price before r l f → (p : ℕ) → p < m → (t : Bool) → ltb 0 (withdrawnIn (l p)) ≡ t
-      → cond t (ltb (price p) (exitOn (l p)) && leb (exitOn (l p)) (before p)) (eqb (exitOn (l p)) 0) ≡ true
-  exit-by A p h true e = let x = A .exits p h (ltb-true 0 (withdrawnIn (l p)) e) in search shown
-  exit-by A p h false e = let x = A .no-exit p h (omega (arith, ltb-false 0 (withdrawnIn (l p)) e)) in search shown
 
   tick-by : Accepted m tick cap price before r l f → (p : ℕ) → p < m → (t : Bool) → tick p ≡ t → cond t true (eqb (reduction (r p) (l p)) 0) ≡ true
   tick-by A p h true e = refl
@@ -90,7 +85,7 @@ module _ (m : ℕ) (tick : ℕ → Bool) (cap price before : ℕ → ℕ) (r : �
       let p10 : overEligible m r l f ≡ false = sure-false _ (λ e. omega (arith, A .eligible, ltb-true)) in
       let p11 : wrongWithdrawn m r l f ≡ false =
       ap not (both (all-give _ m (λ p h. le-leb _ _ (A .withdrawn p h))) (eq-eqb (sumUpTo (λ p. withdrawnIn (l p)) m) (withdrawals m r l f) (omega (arith, A .total)))) in
-      let p12 : wrongExit m r l price before ≡ false = all-right _ m (λ p h. exit-by A p h (ltb 0 (withdrawnIn (l p))) refl) in
+      let p12 : wrongExit m r l price before ≡ false = all-right _ m (λ p h. exits-give (price p) (before p) (l p .withdrawn) (A .exits p h)) in
       rw (p8, p9, p10, p11, p12, A .numbered)
 
 -- the same lines on the products in use are judged alike

@@ -7,18 +7,21 @@ use native.Mathlib.Omega.{arith}
 use borrow.Author.Tests.{eqb-true, eqb-false, ltb-true, ltb-false}
 use lib.ListN.{length, length-set}
 use lib.Dec.{eqb, ltb}
+use Rattle.rules.specs.declared.Lots.{Lots}
 use Rattle.rules.specs.declared.Pick.{Pick}
 use Rattle.rules.specs.declared.Pick.the-variants.{At, Nobody}
 use Rattle.rules.specs.declared.Place.{Place}
 use Rattle.rules.specs.declared.Kept.{Kept}
 use Rattle.rules.specs.Count.{sumUpTo, firstUpTo, never}
 use Rattle.rules.specs.Keep.{Keepable, risen, cancelBy, short, leaver, mover, denyAt, keepStep, canKeep, kept, whileShort, keepLoop, keptAll}
+use Rattle.rules.specs.Lots.{firstUsed, Beginning}
 use Rattle.rules.specs.Held.{standing, below}
 use Rattle.rules.specs.Accept.{placeAt, changed, heldOf, keptOf, leftOf, leavingOf, leavingAt, movingOf, riseOf, retain, deny, cancel, column, rowOf, every}
 use Rattle.rules.proofs.Sums.{sum-le, sum-six, sum-ge, sum-pos, sum-one, and-left, and-right, best-found, best-none}
 use Rattle.rules.proofs.Lists.{clash}
+use Rattle.rules.proofs.LotLaws.{take-total, retain-total, beginning-step}
 use Rattle.rules.proofs.Signed.{below-true, below-false}
-use Rattle.rules.proofs.Places.{goingOf, deniedOf, retainedOf, exitOf, each, column-at, column-beside, row-at, row-beside, every-at, column-flat, row-flat, every-flat}
+use Rattle.rules.proofs.Places.{goingOf, deniedOf, retainedOf, each, column-at, column-beside, row-at, row-beside, every-at, column-flat, row-flat, every-flat}
 
 -- a place before and after: nothing but kept withdrawals, denied switches and cancelled increases
 pub record Moved (x y : Place) : Type 0 where
@@ -28,9 +31,8 @@ pub record Moved (x y : Place) : Type 0 where
   pub leaving : leavingOf y ≤ leavingOf x
   pub moving : movingOf y ≤ movingOf x
   pub rise : riseOf y ≤ riseOf x
-  pub leaves : leavingAt y ≡ leavingAt x
-  pub exit-same : retainedOf y ≡ retainedOf x → exitOf y ≡ exitOf x
-  pub exit-new : retainedOf x < retainedOf y → exitOf y ≡ leavingAt x
+  pub same : retainedOf y ≡ retainedOf x → y .holds .retained ≡ x .holds .retained
+  pub lots : (c : Lots) → Beginning c (x .leaving) (x .holds .retained) → Beginning c (y .leaving) (y .holds .retained)
 
 -- no step, and one after another
 pub moved-refl : (x : Place) → Moved x x
@@ -41,9 +43,8 @@ moved-refl x = record {
   leaving = omega arith;
   moving = omega arith;
   rise = omega arith;
-  leaves = refl;
-  exit-same = λ e. refl;
-  exit-new = λ h. absurd (let z : ⊥ = omega arith in z);
+  same = λ e. refl;
+  lots = λ c b. b;
 }
 
 pub moved-trans : (x y z : Place) → Moved x y → Moved y z → Moved x z
@@ -54,28 +55,25 @@ moved-trans x y z f g = record {
   leaving = omega arith;
   moving = omega arith;
   rise = omega arith;
-  leaves = omega arith;
-  exit-same = λ e. g .exit-same (omega arith) ∙ f .exit-same (omega arith);
-  exit-new = λ h. by h (ltb (retainedOf y) (retainedOf z)) refl;
+  same = λ e. g .same (omega arith) ∙ f .same (omega arith);
+  lots = λ c b. g .lots c (f .lots c b);
 }
-  where
-    by : retainedOf x < retainedOf z → (t : Bool) → ltb (retainedOf y) (retainedOf z) ≡ t → exitOf z ≡ leavingAt x
-    by h true e = g .exit-new (ltb-true _ _ e) ∙ f .leaves
-    by h false e = let l = ltb-false (retainedOf y) (retainedOf z) e in g .exit-same (omega arith) ∙ f .exit-new (omega arith)
 
 -- the three changes of a place
 moved-retain : (x : Place) → 0 < leavingOf x → Moved x (retain x)
-moved-retain x h = record {
-  going = refl;
-  outs = omega arith;
-  switches = refl;
-  leaving = omega arith;
-  moving = omega arith;
-  rise = omega arith;
-  leaves = refl;
-  exit-same = λ e. absurd (let z : ⊥ = omega arith in z);
-  exit-new = λ l. refl;
-}
+moved-retain x h =
+    let t = take-total (x .leaving) h in
+    let r = retain-total (x .holds .retained) (firstUsed (x .leaving)) (leavingAt x) in
+    record {
+      going = refl;
+      outs = omega arith;
+      switches = refl;
+      leaving = omega arith;
+      moving = omega arith;
+      rise = omega arith;
+      same = λ e. absurd (let z : ⊥ = omega arith in z);
+      lots = λ c b. beginning-step c (x .leaving) (x .holds .retained) b h;
+    }
 
 moved-deny : (x : Place) → 0 < movingOf x → Moved x (deny x)
 moved-deny x h = record {
@@ -85,9 +83,8 @@ moved-deny x h = record {
   leaving = omega arith;
   moving = omega arith;
   rise = omega arith;
-  leaves = refl;
-  exit-same = λ e. refl;
-  exit-new = λ l. absurd (let z : ⊥ = omega arith in z);
+  same = λ e. refl;
+  lots = λ c b. b;
 }
 
 moved-cancel : (x : Place) → 0 < riseOf x → riseOf x ≤ goingOf x → Moved x (cancel x)
@@ -98,9 +95,8 @@ moved-cancel x h l = record {
   leaving = omega arith;
   moving = omega arith;
   rise = omega arith;
-  leaves = refl;
-  exit-same = λ e. refl;
-  exit-new = λ l. absurd (let z : ⊥ = omega arith in z);
+  same = λ e. refl;
+  lots = λ c b. b;
 }
 
 -- "Unkept withdrawals go first, .. then switches": the step by what is left
@@ -125,16 +121,19 @@ pub record Stepped (m n p : ℕ) (ps ps′ : List Place) : Type 0 where
 module _ (m n : ℕ) (hm : m ≤ 8) (ps : List Place) (b p : ℕ) (hb : b < n) (hp : p < m) (long : b * 8 + p < length ps) where
   -- a withdrawal retained
   pub retain-stepped : 0 < leavingOf (placeAt ps (b * 8 + p)) → Stepped m n p ps (changed retain ps (b * 8 + p))
-  retain-stepped h = record {
-    long = length-set ps (b * 8 + p) _;
-    moved = each retain ps (b * 8 + p) long Moved moved-refl (moved-retain _ h);
-    owed = λ c. let x = row-flat retain ps b p long riseOf refl c m in let y = row-flat retain ps b p long movingOf refl c m in omega arith;
-    left = let x = every-at retain ps b p long leftOf n hb (omega arith) in omega arith;
-    held-here = let x = column-at retain ps b p long heldOf n hb in omega arith;
-    held-there = λ q l d. let x = column-beside retain ps b p long heldOf q n (omega arith) (omega arith) d in omega arith;
-    kept-here = let x = column-at retain ps b p long keptOf n hb in omega arith;
-    kept-there = λ q l d. column-beside retain ps b p long keptOf q n (omega arith) (omega arith) d;
-  }
+  retain-stepped h =
+      let t = take-total (placeAt ps (b * 8 + p) .leaving) h in
+      let s = retain-total (placeAt ps (b * 8 + p) .holds .retained) (firstUsed (placeAt ps (b * 8 + p) .leaving)) (leavingAt (placeAt ps (b * 8 + p))) in
+      record {
+        long = length-set ps (b * 8 + p) _;
+        moved = each retain ps (b * 8 + p) long Moved moved-refl (moved-retain _ h);
+        owed = λ c. let x = row-flat retain ps b p long riseOf refl c m in let y = row-flat retain ps b p long movingOf refl c m in omega arith;
+        left = let x = every-at retain ps b p long leftOf n hb (omega arith) in omega arith;
+        held-here = let x = column-at retain ps b p long heldOf n hb in omega arith;
+        held-there = λ q l d. let x = column-beside retain ps b p long heldOf q n (omega arith) (omega arith) d in omega arith;
+        kept-here = let x = column-at retain ps b p long keptOf n hb in omega arith;
+        kept-there = λ q l d. column-beside retain ps b p long keptOf q n (omega arith) (omega arith) d;
+      }
 
   -- a denied switch, and the increase at q cancelled
   module _ (h : 0 < movingOf (placeAt ps (b * 8 + p))) (q : ℕ) (hq : q < m) (long′ : b * 8 + q < length (changed deny ps (b * 8 + p)))

@@ -5,17 +5,17 @@ use Prim.Native.Nat.{ℕ, _+_, _*_, _/_, _%_, _≤_, _<_}
 use native.Mathlib.Omega.{arith}
 use borrow.Author.Tests.{ltb-true, ltb-false, lt-ltb, le-ltb, leb-true, leb-false, eqb-true, eq-eqb, ne-eqb}
 use lib.Dec.{eqb, leb, ltb}
-use Rattle.rules.specs.declared.Record.{Record}
 use Rattle.rules.specs.declared.Setup.{Setup}
 use Rattle.rules.specs.declared.Auction.{Auction}
 use Rattle.rules.specs.Settings.{setup, withinLimits, itemWithin, bidderWithin, rowWithin, leastDecrement, targetOf, capOf, startOf, percentOf}
-use Rattle.rules.specs.Held.{retainedIn, exitIn, heldIn, recordAt, held, ticked, excess}
+use Rattle.rules.specs.Held.{heldIn, recordAt, held, ticked, excess}
 use Rattle.rules.specs.Bid.{recordOf, priceAt, beforeAt, markAt, hasFiled}
 use Rattle.rules.specs.Legal.{implies, keptOn, isOpen, mayHaveMark, markStands, productStands, recordZero, recordWithin, recordStands, bidderStands, slotStands, openStands, stands}
 use Rattle.rules.proofs.Sums.{and-left, and-right}
 use Rattle.rules.proofs.Lists.{both, all-give, all-take}
 use Rattle.rules.proofs.Signed.{above-true, lt-above}
 use Rattle.rules.proofs.Tests.{told, shown, sure-true}
+use Rattle.rules.proofs.LotLaws.{exits-take, exits-give}
 use Rattle.rules.specs.Stands.{Limits, Stands}
 
 -- ---- settings
@@ -133,8 +133,7 @@ module _ (a : Auction) (s : stands a ≡ true) where
         let late : 2 ≤ a .round = search told depth 9 in
         (omega arith, op, late, above-true (held (a .records) (a .terms .bidders) p) (targetOf (setup a) p) over);
     no-mark = λ p h l. let x = rw (le-ltb p (a .terms .products) h) at (product-in p l) in search told;
-    exits = λ b p hb hp h. let x = rw (lt-ltb 0 (retainedIn (recordOf a b p)) h) at (record-of b p hb hp) in search told;
-    no-exit = λ b p hb hp h. let x = rw h at (record-of b p hb hp) in search told;
+    exits = λ b p hb hp. let x = record-of b p hb hp in exits-take (priceAt a p) (beforeAt a p) (recordOf a b p .retained) (search told);
     caps = λ b p hb hp. let x = record-of b p hb hp in search told;
     no-bidder = λ k l h. rw (le-ltb (k / 8) (a .terms .bidders) h) at (record-in k l);
     no-product = λ k l h. rw (le-ltb (k % 8) (a .terms .products) h, and-off) at (record-in k l);
@@ -183,12 +182,6 @@ later-open a d h k =
     rw (ne-eqb (a .round) 1 d) (both x (implied (eqb (a .round) 2) _ (λ e.
     let y = all-give (λ p. eqb (keptOn a p) 0) (a .terms .products) (λ p l. eq-eqb _ 0 (k (eqb-true _ _ e) p l)) in search shown)))
 
--- a record within its price, q and cap
-within-by : (p q cap : ℕ) (r : Record) → (0 < retainedIn r → (p < exitIn r) × (exitIn r ≤ q)) → (retainedIn r ≡ 0 → exitIn r ≡ 0)
-    → heldIn r ≤ cap → (t : Bool) → ltb 0 (retainedIn r) ≡ t → recordWithin p q cap r ≡ true
-within-by p q cap r x n c true e = let y = x (ltb-true _ _ e) in rw e (search shown)
-within-by p q cap r x n c false e = let y = n (omega (arith, ltb-false 0 (retainedIn r) e)) in rw e (search shown)
-
 module _ (a : Auction) (S : Stands a) where
   product-by : (p : ℕ) → p < 8 → (t : Bool) → ltb p (a .terms .products) ≡ t → productStands a p ≡ true
   product-by p l true e =
@@ -216,9 +209,9 @@ module _ (a : Auction) (S : Stands a) where
       let z : k / 8 * 8 + k % 8 ≡ k = omega arith in
       let hb = ltb-true (k / 8) (a .terms .bidders) e in
       let hp = ltb-true (k % 8) (a .terms .products) f in
-      let r = within-by (priceAt a (k % 8)) (beforeAt a (k % 8)) (capOf (setup a) (k % 8)) (recordOf a (k / 8) (k % 8))
-      (S .exits (k / 8) (k % 8) hb hp) (S .no-exit (k / 8) (k % 8) hb hp) (S .caps (k / 8) (k % 8) hb hp)
-      (ltb 0 (retainedIn (recordOf a (k / 8) (k % 8)))) refl in
+      let x = exits-give (priceAt a (k % 8)) (beforeAt a (k % 8)) (recordOf a (k / 8) (k % 8) .retained) (S .exits (k / 8) (k % 8) hb hp) in
+      let c = S .caps (k / 8) (k % 8) hb hp in
+      let r : recordWithin (priceAt a (k % 8)) (beforeAt a (k % 8)) (capOf (setup a) (k % 8)) (recordOf a (k / 8) (k % 8)) ≡ true = search shown in
       rw (e, f) (rw z at r)
   record-by k l true false e f = rw (e, f) (S .no-product k l (ltb-false _ _ f))
   record-by k l false u e f = rw e (S .no-bidder k l (ltb-false _ _ e))

@@ -3,6 +3,7 @@ pub mod Lists
 pub mod Parts
 pub mod Fill
 pub mod Tests
+pub mod LotLaws
 pub mod Allowed
 pub mod Units
 pub mod All
@@ -16,5 +17,6 @@ pub mod Fitting
 pub mod Places
 pub mod Keep
 pub mod Withdrawal
+pub mod OneLot
 pub mod Reduced
 pub mod Settling

@@ -10,15 +10,30 @@ use lib.ListN.{length, getD, length-append, List·getD-append}
 use lib.Seq.{getD-append-add}
 use lib.Pow.{shr-shr}
 use lib.Dec.{eqb, ltb}
+use Rattle.rules.specs.declared.Lot.{Lot}
+use Rattle.rules.specs.declared.Lots.{Lots}
+use Rattle.rules.specs.declared.Line.{Line}
+use Rattle.rules.specs.declared.Record.{Record}
 use Rattle.rules.specs.declared.Auction.{Auction}
-use Rattle.rules.specs.Layout.{bytesUpTo, headBytes, laneBytes, seatBytes, rowBytes, recordBytes, lineBytes, stored, read1, read2, read3, read4, laneFrom, seatFrom, rowFrom, recordFrom, lineFrom, loaded, productWidth, bidderWidth, rowWidth, recordWidth, lineWidth, productsFrom, biddersFrom, rowsFrom, recordsFrom, bidsFrom, stateLength, headWidth}
+use Rattle.rules.specs.Layout.{bytesUpTo, headBytes, laneBytes, seatBytes, rowBytes, lotsBytes, recordBytes, lineBytes, stored, read1, read2, read3, read4, laneFrom, seatFrom, rowFrom, lotRead, lotsRead, recordFrom, lineFrom, loaded, productWidth, bidderWidth, rowWidth, lotWidth, lotsWidth, recordWidth, lineWidth, productsFrom, biddersFrom, rowsFrom, recordsFrom, bidsFrom, stateLength, headWidth}
+use Rattle.rules.specs.Lots.{lot, lots, countOf}
 use Rattle.rules.specs.Card.{noLine}
 use Rattle.rules.specs.Parts.{noLane, laneAt, noSeat, seatAt, noRow}
 use Rattle.rules.specs.Settings.{percentOf, decrementOf}
-use Rattle.rules.specs.Held.{nothing, goingIn, deniedIn, retainedIn, exitIn, recordAt, freeOf}
-use Rattle.rules.specs.Bid.{bidIn, withdrawnIn, exitOn, priceAt, beforeAt, markAt}
+use Rattle.rules.specs.Held.{nothing, goingIn, deniedIn, recordAt, freeOf}
+use Rattle.rules.specs.Bid.{bidIn, priceAt, beforeAt, markAt}
 use Rattle.rules.proofs.Lists.{list-at, list-is, list-long}
 use Rattle.rules.specs.Stands.{Long}
+
+-- a lot fits its bytes, and each of four
+abbrev pub LotFits : Lot → Type 0
+LotFits l = (countOf l < 256) × (l .exit < 16777216)
+
+pub record LotsFit (l : Lots) : Type 0 where
+  pub one : LotFits (l .one)
+  pub two : LotFits (l .two)
+  pub three : LotFits (l .three)
+  pub four : LotFits (l .four)
 
 -- every field fits its bytes
 pub record Fits (a : Auction) : Type 0 where
@@ -42,11 +57,9 @@ pub record Fits (a : Auction) : Type 0 where
   pub decrement : (i : ℕ) → i < 8 → decrementOf (a .decrements) i < 65536
   pub going : (k : ℕ) → k < 256 → goingIn (recordAt (a .records) k) < 256
   pub denied : (k : ℕ) → k < 256 → deniedIn (recordAt (a .records) k) < 256
-  pub retained : (k : ℕ) → k < 256 → retainedIn (recordAt (a .records) k) < 256
-  pub exit : (k : ℕ) → k < 256 → exitIn (recordAt (a .records) k) < 16777216
+  pub retained : (k : ℕ) → k < 256 → LotsFit (recordAt (a .records) k .retained)
   pub bid : (k : ℕ) → k < 256 → bidIn (getD (a .cards .lines) k noLine) < 256
-  pub withdrawn : (k : ℕ) → k < 256 → withdrawnIn (getD (a .cards .lines) k noLine) < 256
-  pub leaving : (k : ℕ) → k < 256 → exitOn (getD (a .cards .lines) k noLine) < 16777216
+  pub withdrawn : (k : ℕ) → k < 256 → LotsFit (getD (a .cards .lines) k noLine .withdrawn)
   pub priority : (k : ℕ) → k < 256 → getD (a .cards .lines) k noLine .priority < 256
 
 -- ---- parts of one width
@@ -97,6 +110,14 @@ record Part (s part : List ℕ) (w off : ℕ) : Type 0 where
 
 -- ---- the parts of a state
 
+pub record-wide : (r : Record) → length (recordBytes r) ≡ recordWidth
+unfolding lotsBytes
+record-wide r = refl
+
+pub line-wide : (l : Line) → length (lineBytes l) ≡ lineWidth
+unfolding lotsBytes
+line-wide l = refl
+
 module _ (a : Auction) where
   abbrev laneOf : ℕ → List ℕ
   laneOf p = laneBytes (laneAt a p)
@@ -135,12 +156,12 @@ module _ (a : Auction) where
   rows-long = behind-long rowOf rowWidth (λ k. refl) toSeats rowsFrom 8 seats-long
 
   records-long : length toRecords ≡ bidsFrom
-  records-long = behind-long recordOf recordWidth (λ k. refl) toRows recordsFrom 256 rows-long
+  records-long = behind-long recordOf recordWidth (λ k. record-wide (recordAt (a .records) k)) toRows recordsFrom 256 rows-long
 
   -- the state's length
   pub stored-long : length (stored a) ≡ stateLength
   unfolding stored
-  stored-long = behind-long lineOf lineWidth (λ k. refl) toRecords bidsFrom 256 records-long
+  stored-long = behind-long lineOf lineWidth (λ k. line-wide (getD (a .cards .lines) k noLine)) toRecords bidsFrom 256 records-long
 
   in-records : (i : ℕ) → i < bidsFrom → getD (stored a) i 0 ≡ getD toRecords i 0
   unfolding stored
@@ -179,13 +200,15 @@ module _ (a : Auction) where
 
   record-part : (k : ℕ) → k < 256 → Part (stored a) (recordOf k) recordWidth (recordsFrom + k * recordWidth)
   record-part k h = record {
-    byte = λ j i l e. in-records i (omega arith) ∙ behind recordOf recordWidth (λ k. refl) toRows recordsFrom 256 i k j rows-long h l e;
+    byte = λ j i l e. in-records i (omega arith)
+        ∙ behind recordOf recordWidth (λ k. record-wide (recordAt (a .records) k)) toRows recordsFrom 256 i k j rows-long h l e;
   }
 
   line-part : (k : ℕ) → k < 256 → Part (stored a) (lineOf k) lineWidth (bidsFrom + k * lineWidth)
   unfolding stored
   line-part k h = record {
-    byte = λ j i l e. behind lineOf lineWidth (λ k. refl) toRecords bidsFrom 256 i k j records-long h l e;
+    byte = λ j i l e.
+        behind lineOf lineWidth (λ k. line-wide (getD (a .cards .lines) k noLine)) toRecords bidsFrom 256 i k j records-long h l e;
   }
 
 -- ---- and back
@@ -216,6 +239,15 @@ module _ {s part : List ℕ} {w off : ℕ} (P : Part s part w off) where
       rw (P .byte j i (omega arith) e, P .byte (j + 1) (i + 1) (omega arith) (omega arith), P .byte (j + 2) (i + 2) (omega arith) (omega arith), P .byte (j + 3) (i + 3) l (omega arith), p, q, r, t)
       (joined (x / 16777216 % 256) (x / 65536 % 256) (x / 256 % 256) (x % 256) x
       (rw (← shr-shr x 8 16, ← shr-shr x 8 8) (three (x / 256) (omega arith))) refl)
+
+  lot-at : (j i : ℕ) (l : Lot) → j + 3 < w → i ≡ off + j → LotFits l → getD part j 0 ≡ countOf l % 256
+      → getD part (j + 1) 0 ≡ l .exit / 65536 % 256 → getD part (j + 1 + 1) 0 ≡ l .exit / 256 % 256
+      → getD part (j + 1 + 2) 0 ≡ l .exit % 256
+      → lotRead s i ≡ l
+  lot-at j i l h e f p q r t =
+      let n = one-at j i (countOf l) (omega arith) e (f .0) p in
+      let x = three-at (j + 1) (i + 1) (l .exit) (omega arith) (omega arith) (f .1) q r t in
+      rw (n, x)
 
 module _ (a : Auction) (L : Long a) (F : Fits a) where
   lane-back : (p : ℕ) → p < 8 → laneFrom (stored a) (p * productWidth + productsFrom) ≡ laneAt a p
@@ -250,6 +282,20 @@ module _ (a : Auction) (L : Long a) (F : Fits a) where
         two-at P 2 (k + 2) (decrementOf (a .decrements) i) (omega arith) (omega arith) (F .decrement i h) refl refl,
       )
 
+  retained-back : (k : ℕ) → k < 256 → lotsRead (stored a) (k * recordWidth + recordsFrom + 2) ≡ recordAt (a .records) k .retained
+  unfolding lotsRead lotsBytes
+  retained-back k h =
+      let P = record-part a k h in
+      let i = k * recordWidth + recordsFrom + 2 in
+      let l = recordAt (a .records) k .retained in
+      let f = F .retained k h in
+      rw (
+        lot-at P 2 i (l .one) (omega arith) (omega arith) (f .one) refl refl refl refl,
+        lot-at P 6 (i + lotWidth) (l .two) (omega arith) (omega arith) (f .two) refl refl refl refl,
+        lot-at P 10 (i + 2 * lotWidth) (l .three) (omega arith) (omega arith) (f .three) refl refl refl refl,
+        lot-at P 14 (i + 3 * lotWidth) (l .four) (omega arith) (omega arith) (f .four) refl refl refl refl,
+      )
+
   record-back : (k : ℕ) → k < 256 → recordFrom (stored a) (k * recordWidth + recordsFrom) ≡ recordAt (a .records) k
   record-back k h =
       let P = record-part a k h in
@@ -257,19 +303,34 @@ module _ (a : Auction) (L : Long a) (F : Fits a) where
       rw (
         one-at P 0 (k * recordWidth + recordsFrom) (goingIn r) (omega arith) (omega arith) (F .going k h) refl,
         one-at P 1 (k * recordWidth + recordsFrom + 1) (deniedIn r) (omega arith) (omega arith) (F .denied k h) refl,
-        one-at P 2 (k * recordWidth + recordsFrom + 2) (retainedIn r) (omega arith) (omega arith) (F .retained k h) refl,
-        three-at P 3 (k * recordWidth + recordsFrom + 3) (exitIn r) (omega arith) (omega arith) (F .exit k h) refl refl refl,
+        retained-back k h,
+      )
+
+  withdrawn-back : (k : ℕ) → k < 256
+      → lotsRead (stored a) (k * lineWidth + bidsFrom + 1) ≡ getD (a .cards .lines) k noLine .withdrawn
+  unfolding lotsRead lotsBytes
+  withdrawn-back k h =
+      let P = line-part a k h in
+      let i = k * lineWidth + bidsFrom + 1 in
+      let l = getD (a .cards .lines) k noLine .withdrawn in
+      let f = F .withdrawn k h in
+      rw (
+        lot-at P 1 i (l .one) (omega arith) (omega arith) (f .one) refl refl refl refl,
+        lot-at P 5 (i + lotWidth) (l .two) (omega arith) (omega arith) (f .two) refl refl refl refl,
+        lot-at P 9 (i + 2 * lotWidth) (l .three) (omega arith) (omega arith) (f .three) refl refl refl refl,
+        lot-at P 13 (i + 3 * lotWidth) (l .four) (omega arith) (omega arith) (f .four) refl refl refl refl,
       )
 
   line-back : (k : ℕ) → k < 256 → lineFrom (stored a) (k * lineWidth + bidsFrom) ≡ getD (a .cards .lines) k noLine
+  unfolding lotsBytes
   line-back k h =
       let P = line-part a k h in
       let l = getD (a .cards .lines) k noLine in
+      let i = k * lineWidth + bidsFrom in
       rw (
-        one-at P 0 (k * lineWidth + bidsFrom) (bidIn l) (omega arith) (omega arith) (F .bid k h) refl,
-        one-at P 1 (k * lineWidth + bidsFrom + 1) (withdrawnIn l) (omega arith) (omega arith) (F .withdrawn k h) refl,
-        three-at P 2 (k * lineWidth + bidsFrom + 2) (exitOn l) (omega arith) (omega arith) (F .leaving k h) refl refl refl,
-        one-at P 5 (k * lineWidth + bidsFrom + 5) (l .priority) (omega arith) (omega arith) (F .priority k h) refl,
+        one-at P 0 i (bidIn l) (omega arith) (omega arith) (F .bid k h) refl,
+        withdrawn-back k h,
+        one-at P 17 (i + 1 + lotsWidth) (l .priority) (omega arith) (omega arith) (F .priority k h) refl,
       )
 
   -- what is stored is loaded
@@ -353,7 +414,11 @@ unfolding bytesUpTo
 parts-bytes part h zero = no-bytes
 parts-bytes part h (suc n) = more-bytes (bytesUpTo part n) (part n) (parts-bytes part h n) (h n)
 
+lots-bytes : (l : Lots) → Bytes (lotsBytes l)
+unfolding lotsBytes
+lots-bytes l = search (one-byte, no-bytes) depth 30
+
 -- what is stored is bytes
 pub stored-bytes : (a : Auction) → Bytes (stored a)
 unfolding stored
-stored-bytes a = search (one-byte, more-bytes, parts-bytes, no-bytes) depth 30
+stored-bytes a = search (one-byte, lots-bytes, more-bytes, parts-bytes, no-bytes) depth 30

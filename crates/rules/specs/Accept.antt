@@ -2,22 +2,23 @@
 use mathlib.Core.List.{List}
 use Prim.Native.Nat.{ℕ, _+_, _*_, _-_, _/_, _%_}
 use lib.ListN.{getD, set}
+use Rattle.rules.specs.declared.Lots.{Lots}
 use Rattle.rules.specs.declared.Line.{Line}
 use Rattle.rules.specs.declared.Record.{Record}
 use Rattle.rules.specs.declared.Place.{Place}
 use Rattle.rules.specs.declared.Auction.{Auction}
 use Rattle.rules.specs.Count.{sumUpTo, listOf}
 use Rattle.rules.specs.Units.{tranches}
-use Rattle.rules.specs.Card.{lot}
-use Rattle.rules.specs.Held.{entry, nothing, deniedIn, retainedIn, exitIn, heldIn, keptIn, retained, denied, cancelled, deemed, switchOutbid, withdrawalOutbid}
-use Rattle.rules.specs.Bid.{bidIn, withdrawnIn, exitOn, reduction, increase, recordOf, bidOn}
+use Rattle.rules.specs.Lots.{noLots, total, firstUsed, lowest, takeFirst}
+use Rattle.rules.specs.Held.{entry, nothing, deniedIn, heldIn, keptIn, retained, denied, cancelled, deemed, switchOutbid, withdrawalOutbid}
+use Rattle.rules.specs.Bid.{bidIn, withdrawnIn, reduction, increase, recordOf, bidOn}
 
--- a record; withdrawals of this bid not kept, and their exit price; switches not denied; increases not cancelled; priority
-abbrev pub at : Record → ℕ → ℕ → ℕ → ℕ → ℕ → Place
-at r n x s i k = record { holds = r; leaving = lot n x; moving = tranches s; rise = tranches i; priority = k }
+-- a record; withdrawals of this bid not kept, by lot; switches not denied; increases not cancelled; priority
+abbrev pub at : Record → Lots → ℕ → ℕ → ℕ → Place
+at r l s i k = record { holds = r; leaving = l; moving = tranches s; rise = tranches i; priority = k }
 
 abbrev pub nowhere : Place
-nowhere = at nothing 0 0 0 0 0
+nowhere = at nothing noLots 0 0 0
 
 abbrev pub placeAt : List Place → ℕ → Place
 placeAt ps k = getD ps k nowhere
@@ -26,10 +27,11 @@ abbrev pub changed : (Place → Place) → List Place → ℕ → List Place
 changed u ps k = set ps k (u (placeAt ps k))
 
 abbrev pub leavingOf : Place → ℕ
-leavingOf l = l .leaving .count .0
+leavingOf l = total (l .leaving)
 
+-- the lowest exit price of them
 abbrev pub leavingAt : Place → ℕ
-leavingAt l = l .leaving .exit
+leavingAt l = lowest (l .leaving)
 
 abbrev pub movingOf : Place → ℕ
 movingOf l = l .moving .0
@@ -48,18 +50,20 @@ abbrev pub leftOf : Place → ℕ
 leftOf l = leavingOf l + movingOf l
 
 abbrev pub withRecord : (Record → Record) → Place → Place
-withRecord u l = at (u (l .holds)) (leavingOf l) (leavingAt l) (movingOf l) (riseOf l) (l .priority)
+withRecord u l = at (u (l .holds)) (l .leaving) (movingOf l) (riseOf l) (l .priority)
 
 -- ---- the changes of one place
 
+-- one of the lowest price goes from the card's lot to the same lot of the record
 abbrev pub retain : Place → Place
-retain l = at (retained (l .holds) (leavingAt l)) (leavingOf l - 1) (leavingAt l) (movingOf l) (riseOf l) (l .priority)
+retain l =
+    at (retained (l .holds) (firstUsed (l .leaving)) (leavingAt l)) (takeFirst (l .leaving)) (movingOf l) (riseOf l) (l .priority)
 
 abbrev pub deny : Place → Place
-deny l = at (denied (l .holds)) (leavingOf l) (leavingAt l) (movingOf l - 1) (riseOf l) (l .priority)
+deny l = at (denied (l .holds)) (l .leaving) (movingOf l - 1) (riseOf l) (l .priority)
 
 abbrev pub cancel : Place → Place
-cancel l = at (cancelled (l .holds)) (leavingOf l) (leavingAt l) (movingOf l) (riseOf l - 1) (l .priority)
+cancel l = at (cancelled (l .holds)) (l .leaving) (movingOf l) (riseOf l - 1) (l .priority)
 
 abbrev pub deem : Place → Place
 deem l = withRecord deemed l
@@ -75,8 +79,7 @@ outbidWithdrawal l = withRecord withdrawalOutbid l
 -- b in the place of g; "Withdrawn counts say which reductions are withdrawals; the other reductions are switches."
 abbrev pub accepted : Record → Line → Place
 accepted r l =
-    at (entry (bidIn l) (deniedIn r) (retainedIn r) (exitIn r)) (withdrawnIn l) (exitOn l)
-    (reduction r l - withdrawnIn l) (increase r l) (l .priority)
+    at (entry (bidIn l) (deniedIn r) (r .retained)) (l .withdrawn) (reduction r l - withdrawnIn l) (increase r l) (l .priority)
 
 abbrev pub acceptedAll : Auction → List Place
 acceptedAll a = listOf (λ k. accepted (recordOf a (k / 8) (k % 8)) (bidOn a (k / 8) (k % 8))) 256

@@ -10,6 +10,7 @@ use Rattle.rules.specs.declared.Auction.{Auction}
 use Rattle.rules.specs.Count.{sumUpTo, allUpTo, listOf}
 use Rattle.rules.specs.Parts.{laneAt}
 use Rattle.rules.specs.Settings.{setup, capOf}
+use Rattle.rules.specs.Lots.{noLots, oneLot, total, exitsFit}
 use Rattle.rules.specs.Card.{line, noLine}
 use Rattle.rules.specs.Held.{goingIn, deniedIn, retainedIn, recordAt, place, ticked, freeOf}
 
@@ -17,10 +18,7 @@ abbrev pub bidIn : Line → ℕ
 bidIn l = l .tranches .0
 
 abbrev pub withdrawnIn : Line → ℕ
-withdrawnIn l = l .withdrawn .count .0
-
-abbrev pub exitOn : Line → ℕ
-exitOn l = l .withdrawn .exit
+withdrawnIn l = total (l .withdrawn)
 
 -- "Reduction R = g - b if positive, else 0. Increase I = b - g if positive, else 0."
 abbrev pub reduction : Record → Line → ℕ
@@ -61,21 +59,16 @@ module _ (m : ℕ) (r : ℕ → Record) (l : ℕ → Line) where
   abbrev pub overEligible : ℕ → Bool
   overEligible f = ltb (sumUpTo (λ p. goingIn (r p)) m + f) (sumUpTo (λ p. bidIn (l p)) m)
 
-  -- 11: "withdrawn above R on a product, or total not w"
+  -- 11: "withdrawn above R on a product, or total not w"; it "judges the sum of lot counts"
   abbrev pub wrongWithdrawn : ℕ → Bool
   wrongWithdrawn f =
       not (
       allUpTo (λ p. leb (withdrawnIn (l p)) (reduction (r p) (l p))) m
       && eqb (sumUpTo (λ p. withdrawnIn (l p)) m) (withdrawals f))
 
-  -- 12: "withdrawn > 0 and exit not in p < x <= q; or withdrawn = 0 and exit not 0"
+  -- 12: "judges each price, the order and the zero lots"
   abbrev pub wrongExit : (ℕ → ℕ) → (ℕ → ℕ) → Bool
-  wrongExit price before =
-      not (
-      allUpTo (λ p.
-      cond (ltb 0 (withdrawnIn (l p)))
-      (ltb (price p) (exitOn (l p)) && leb (exitOn (l p)) (before p))
-      (eqb (exitOn (l p)) 0)) m)
+  wrongExit price before = not (allUpTo (λ p. exitsFit (price p) (before p) (l p .withdrawn)) m)
 
   abbrev pub increased : ℕ → Bool
   increased p = ltb 0 (increase (r p) (l p))
@@ -132,10 +125,10 @@ hasFiled a b = eqb (a .cards .filed / 2 ^ b % 2) 1
 abbrev pub slotOf : Auction → ℕ → List Line
 slotOf a b = listOf (λ p. getD (a .cards .lines) (place b p) noLine) 8
 
--- "No card: the default bid is 0 on each ticked product, all withdrawn at exit price q, and b = g elsewhere."
+-- "No card: the default bid is 0 on each ticked product, all withdrawn at exit price q, and b = g elsewhere." Document 02: it "is one lot at
+-- q"; no lot where g is 0
 abbrev pub defaultLine : Bool → ℕ → Record → Line
-defaultLine tick q r =
-    cond tick (line 0 (goingIn r) (cond (ltb 0 (goingIn r)) q 0) 0) (line (goingIn r) 0 0 0)
+defaultLine tick q r = cond tick (line 0 (oneLot (goingIn r) q) 0) (line (goingIn r) noLots 0)
 
 -- the bid of bidder b on product p: its card's, or the default
 abbrev pub bidOn : Auction → ℕ → ℕ → Line

@@ -1,25 +1,26 @@
 -- "What is held." Assumes nothing.
-use mathlib.Core.Bool.{Bool, cond}
+use mathlib.Core.Bool.{Bool}
 use mathlib.Core.List.{List}
 use Prim.Native.Nat.{ℕ, _+_, _*_, _-_, min}
 use lib.ListN.{getD}
-use lib.Dec.{ltb}
 use lib.IntN.{ℤ, pos, negsuc, subℕ}
 use lib.Signed.{ltZ}
+use Rattle.rules.specs.declared.Lots.{Lots}
 use Rattle.rules.specs.declared.Record.{Record}
 use Rattle.rules.specs.declared.Auction.{Auction}
 use Rattle.rules.specs.Count.{sumUpTo}
 use Rattle.rules.specs.Units.{tranches}
 use Rattle.rules.specs.Parts.{seatAt}
 use Rattle.rules.specs.Settings.{setup, targetOf}
-use Rattle.rules.specs.Card.{lot}
+use Rattle.rules.specs.Lots.{noLots, total, highest, retainAt, outbidLast}
 
--- "g tranches at the going price p, d denied switches at the price q before its latest fall, r retained withdrawals at one exit price"
-abbrev pub entry : ℕ → ℕ → ℕ → ℕ → Record
-entry g d r x = record { going = tranches g; denied = tranches d; retained = lot r x }
+-- "g tranches at the going price p, d denied switches at the price q before its latest fall, r retained withdrawals"; document 02: they
+-- "are kept per lot in the bidder's record"
+abbrev pub entry : ℕ → ℕ → Lots → Record
+entry g d l = record { going = tranches g; denied = tranches d; retained = l }
 
 abbrev pub nothing : Record
-nothing = entry 0 0 0 0
+nothing = entry 0 0 noLots
 
 abbrev pub goingIn : Record → ℕ
 goingIn r = r .going .0
@@ -27,11 +28,13 @@ goingIn r = r .going .0
 abbrev pub deniedIn : Record → ℕ
 deniedIn r = r .denied .0
 
+-- r is the sum of the lots
 abbrev pub retainedIn : Record → ℕ
-retainedIn r = r .retained .count .0
+retainedIn r = total (r .retained)
 
+-- the highest exit price
 abbrev pub exitIn : Record → ℕ
-exitIn r = r .retained .exit
+exitIn r = highest (r .retained)
 
 -- "Held is g + d + r"; '"Kept" means denied or retained'
 abbrev pub heldIn : Record → ℕ
@@ -42,34 +45,33 @@ keptIn r = deniedIn r + retainedIn r
 
 -- ---- a tranche kept, cancelled, deemed bid or outbid: the record is changed and handed back
 
--- a withdrawal is retained at its exit price
-abbrev pub retained : Record → ℕ → Record
-retained r x = entry (goingIn r) (deniedIn r) (retainedIn r + 1) x
+-- a withdrawal of the card's lot at place i is retained in the record's lot at that place, at its exit price
+abbrev pub retained : Record → ℕ → ℕ → Record
+retained r i x = entry (goingIn r) (deniedIn r) (retainAt (r .retained) i x)
 
 -- a switch is denied
 abbrev pub denied : Record → Record
-denied r = entry (goingIn r) (deniedIn r + 1) (retainedIn r) (exitIn r)
+denied r = entry (goingIn r) (deniedIn r + 1) (r .retained)
 
 -- an increase is cancelled
 abbrev pub cancelled : Record → Record
-cancelled r = entry (goingIn r - 1) (deniedIn r) (retainedIn r) (exitIn r)
+cancelled r = entry (goingIn r - 1) (deniedIn r) (r .retained)
 
 -- "d joins g"
 abbrev pub deemed : Record → Record
-deemed r = entry (goingIn r + deniedIn r) 0 (retainedIn r) (exitIn r)
+deemed r = entry (goingIn r + deniedIn r) 0 (r .retained)
 
 -- a denied switch is outbid
 abbrev pub switchOutbid : Record → Record
-switchOutbid r = entry (goingIn r) (deniedIn r - 1) (retainedIn r) (exitIn r)
+switchOutbid r = entry (goingIn r) (deniedIn r - 1) (r .retained)
 
--- a retained withdrawal is outbid; the exit price is 0 where none is left
+-- a retained withdrawal is outbid, that of the highest exit price
 abbrev pub withdrawalOutbid : Record → Record
-withdrawalOutbid r =
-    entry (goingIn r) (deniedIn r) (retainedIn r - 1) (cond (ltb 1 (retainedIn r)) (exitIn r) 0)
+withdrawalOutbid r = entry (goingIn r) (deniedIn r) (outbidLast (r .retained))
 
 -- a bidder above a cap is set to it; g alone is cut, since it is only done where nothing is kept
 abbrev pub setTo : Record → ℕ → Record
-setTo r cap = entry (min (goingIn r) cap) (deniedIn r) (retainedIn r) (exitIn r)
+setTo r cap = entry (min (goingIn r) cap) (deniedIn r) (r .retained)
 
 -- ---- the book
 

@@ -4,7 +4,9 @@ use mathlib.Core.List.{List, [], _∷_, _++_}
 use Prim.Native.Nat.{ℕ, zero, suc, _+_, _*_, _/_, _%_}
 use lib.ListN.{length, getD}
 use lib.Dec.{eqb}
-pub use Rattle.layout.specs.Sections.{headWidth, productWidth, bidderWidth, rowWidth, recordWidth, lineWidth, productsFrom, biddersFrom, rowsFrom, recordsFrom, bidsFrom, stateLength}
+pub use Rattle.layout.specs.Sections.{headWidth, productWidth, bidderWidth, rowWidth, lotWidth, lotsWidth, recordWidth, lineWidth, productsFrom, biddersFrom, rowsFrom, recordsFrom, bidsFrom, stateLength}
+use Rattle.rules.specs.declared.Lot.{Lot}
+use Rattle.rules.specs.declared.Lots.{Lots}
 use Rattle.rules.specs.declared.Line.{Line}
 use Rattle.rules.specs.declared.Record.{Record}
 use Rattle.rules.specs.declared.Terms.{Terms}
@@ -14,10 +16,11 @@ use Rattle.rules.specs.declared.Row.{Row}
 use Rattle.rules.specs.declared.Auction.{Auction}
 use Rattle.rules.specs.Count.{allUpTo, listOf}
 use Rattle.rules.specs.Units.{tranches}
+use Rattle.rules.specs.Lots.{lot, lots, countOf}
 use Rattle.rules.specs.Card.{line, noLine}
 use Rattle.rules.specs.Parts.{lane, laneAt, seat, seatAt, row, noRow, table, cards, auction}
-use Rattle.rules.specs.Held.{entry, goingIn, deniedIn, retainedIn, exitIn, recordAt}
-use Rattle.rules.specs.Bid.{bidIn, withdrawnIn, exitOn}
+use Rattle.rules.specs.Held.{entry, goingIn, deniedIn, recordAt}
+use Rattle.rules.specs.Bid.{bidIn}
 
 -- ---- to bytes
 
@@ -57,13 +60,20 @@ seatBytes s = bytes2 (s .initial .0) ++ bytes2 (s .free .0)
 abbrev pub rowBytes : Row → List ℕ
 rowBytes r = bytes2 (r .percent) ++ bytes2 (r .decrement .0)
 
--- g, d, r; exit price 3
-abbrev pub recordBytes : Record → List ℕ
-recordBytes r = byte1 (goingIn r) ++ byte1 (deniedIn r) ++ byte1 (retainedIn r) ++ bytes3 (exitIn r)
+-- count; price 3
+abbrev pub lotBytes : Lot → List ℕ
+lotBytes l = byte1 (countOf l) ++ bytes3 (l .exit)
 
--- tranches, withdrawn; exit price 3, priority
+unfoldable pub lotsBytes : Lots → List ℕ
+lotsBytes l = lotBytes (l .one) ++ lotBytes (l .two) ++ lotBytes (l .three) ++ lotBytes (l .four)
+
+-- g, d; four lots
+abbrev pub recordBytes : Record → List ℕ
+recordBytes r = byte1 (goingIn r) ++ byte1 (deniedIn r) ++ lotsBytes (r .retained)
+
+-- tranches; four lots; priority
 abbrev pub lineBytes : Line → List ℕ
-lineBytes l = byte1 (bidIn l) ++ byte1 (withdrawnIn l) ++ bytes3 (exitOn l) ++ byte1 (l .priority)
+lineBytes l = byte1 (bidIn l) ++ lotsBytes (l .withdrawn) ++ byte1 (l .priority)
 
 unfoldable pub stored : Auction → List ℕ
 stored a =
@@ -98,11 +108,17 @@ seatFrom s k = seat (read2 s k) (read2 s (k + 2))
 abbrev pub rowFrom : List ℕ → ℕ → Row
 rowFrom s k = row (read2 s k) (read2 s (k + 2))
 
+abbrev pub lotRead : List ℕ → ℕ → Lot
+lotRead s k = lot (read1 s k) (read3 s (k + 1))
+
+unfoldable pub lotsRead : List ℕ → ℕ → Lots
+lotsRead s k = lots (lotRead s k) (lotRead s (k + lotWidth)) (lotRead s (k + 2 * lotWidth)) (lotRead s (k + 3 * lotWidth))
+
 abbrev pub recordFrom : List ℕ → ℕ → Record
-recordFrom s k = entry (read1 s k) (read1 s (k + 1)) (read1 s (k + 2)) (read3 s (k + 3))
+recordFrom s k = entry (read1 s k) (read1 s (k + 1)) (lotsRead s (k + 2))
 
 abbrev pub lineFrom : List ℕ → ℕ → Line
-lineFrom s k = line (read1 s k) (read1 s (k + 1)) (read3 s (k + 2)) (read1 s (k + 5))
+lineFrom s k = line (read1 s k) (lotsRead s (k + 1)) (read1 s (k + 1 + lotsWidth))
 
 unfoldable pub loaded : List ℕ → Auction
 loaded s =

@@ -9,8 +9,9 @@ use Rattle.rules.specs.declared.Auction.{Auction}
 use Rattle.rules.specs.Count.{sumUpTo, allUpTo}
 use Rattle.rules.specs.Answers.{bidsOpen, closed, stopped}
 use Rattle.rules.specs.Settings.{between, setup, withinLimits, targetOf, capOf, startOf, initialOf}
+use Rattle.rules.specs.Lots.{exitsFit, lotsZero}
 use Rattle.rules.specs.Card.{lineZero}
-use Rattle.rules.specs.Held.{goingIn, deniedIn, retainedIn, exitIn, heldIn, keptIn, recordAt, held, ticked, freeOf, excess}
+use Rattle.rules.specs.Held.{goingIn, deniedIn, heldIn, keptIn, recordAt, held, ticked, freeOf, excess}
 use Rattle.rules.specs.Bid.{recordOf, priceAt, beforeAt, markAt, onProduct, judged, hasFiled, slotOf}
 use Rattle.rules.specs.Round.{stops}
 
@@ -47,12 +48,11 @@ productStands a p =
     (eqb (priceAt a p) 0 && (eqb (beforeAt a p) 0 && eqb (markAt a p) 0))
 
 abbrev pub recordZero : Record → Bool
-recordZero r = eqb (goingIn r) 0 && (eqb (deniedIn r) 0 && (eqb (retainedIn r) 0 && eqb (exitIn r) 0))
+recordZero r = eqb (goingIn r) 0 && (eqb (deniedIn r) 0 && lotsZero (r .retained))
 
--- "retained exits above p, at most q, and 0 where r is 0"; "each bidder within product caps"
+-- "retained exits above p, at most q", lot by lot, "ordered as on a card, which standing requires"; "each bidder within product caps"
 abbrev pub recordWithin : ℕ → ℕ → ℕ → Record → Bool
-recordWithin p q cap r =
-    cond (ltb 0 (retainedIn r)) (ltb p (exitIn r) && leb (exitIn r) q) (eqb (exitIn r) 0) && leb (heldIn r) cap
+recordWithin p q cap r = exitsFit p q (r .retained) && leb (heldIn r) cap
 
 -- past the bidders or products in use 0
 abbrev pub recordStands : Auction → ℕ → Bool

@@ -1,5 +1,6 @@
 pub mod Count
 pub mod Units
+pub mod Lots
 pub mod Answers
 pub mod Parts
 pub mod Settings

@@ -5,6 +5,8 @@ use lib.ListN.{replicate}
 use lib.Dec.{leb, ltb, eqb}
 use Rattle.rules.specs.declared.GoingPrice.{GoingPrice}
 use Rattle.rules.specs.declared.Range.{Range}
+use Rattle.rules.specs.declared.Lot.{Lot}
+use Rattle.rules.specs.declared.Lots.{Lots}
 use Rattle.rules.specs.declared.Record.{Record}
 use Rattle.rules.specs.declared.Auction.{Auction}
 use Rattle.rules.specs.declared.Report.the-variants as report
@@ -14,7 +16,8 @@ use Rattle.rules.specs.declared.Awarded.{Awarded}
 use Rattle.rules.specs.Count.{listOf}
 use Rattle.rules.specs.Units.{tranches, quote, goingPrice}
 use Rattle.rules.specs.Answers.{phaseOf}
-use Rattle.rules.specs.Held.{nothing, goingIn, deniedIn, retainedIn, exitIn, heldIn, recordAt, freeOf, excess}
+use Rattle.rules.specs.Lots.{countOf}
+use Rattle.rules.specs.Held.{nothing, goingIn, deniedIn, heldIn, recordAt, freeOf, excess}
 use Rattle.rules.specs.Bid.{recordOf, priceAt, beforeAt, markAt}
 
 abbrev pub range : ℕ → ℕ → Range
@@ -46,9 +49,16 @@ reportRefused n = record { report = report.Refused n; records = replicate 8 noth
 abbrev pub priceIf : ℕ → ℕ → ℕ
 priceIf n x = cond (ltb 0 n) x 0
 
--- the highest price at which a record holds a tranche: g at p, d at q, r at the exit price; 0 where it holds none
+-- the highest price of the lots, each looked at
+abbrev pub exitIf : Lot → ℕ
+exitIf l = priceIf (countOf l) (l .exit)
+
+abbrev pub highestLot : Lots → ℕ
+highestLot l = max (exitIf (l .one)) (max (exitIf (l .two)) (max (exitIf (l .three)) (exitIf (l .four))))
+
+-- the highest price at which a record holds a tranche: g at p, d at q, r at its lots' exit prices; 0 where it holds none
 abbrev pub highestIn : ℕ → ℕ → Record → ℕ
-highestIn p q r = max (priceIf (goingIn r) p) (max (priceIf (deniedIn r) q) (priceIf (retainedIn r) (exitIn r)))
+highestIn p q r = max (priceIf (goingIn r) p) (max (priceIf (deniedIn r) q) (highestLot (r .retained)))
 
 abbrev pub highestUpTo : Auction → ℕ → ℕ → ℕ
 highestUpTo a p zero = 0

@@ -9,8 +9,9 @@ use Rattle.rules.specs.declared.Setup.{Setup}
 use Rattle.rules.specs.declared.Auction.{Auction}
 use Rattle.rules.specs.Count.{sumUpTo}
 use Rattle.rules.specs.Settings.{setup, withinLimits, targetOf, capOf, startOf, initialOf, percentOf, decrementOf}
-use Rattle.rules.specs.Held.{goingIn, deniedIn, retainedIn, exitIn, heldIn, recordAt, held, freeOf}
-use Rattle.rules.specs.Bid.{bidIn, withdrawnIn, exitOn, reductions, increases, wrongPriority, recordOf, priceAt, beforeAt, markAt}
+use Rattle.rules.specs.Lots.{ExitsFit}
+use Rattle.rules.specs.Held.{goingIn, deniedIn, retainedIn, heldIn, recordAt, held, freeOf}
+use Rattle.rules.specs.Bid.{bidIn, withdrawnIn, reductions, increases, wrongPriority, recordOf, priceAt, beforeAt, markAt}
 use Rattle.rules.specs.Legal.{keptOn, isOpen, recordZero, slotStands, phaseStands}
 
 -- settings within limits
@@ -60,10 +61,8 @@ pub record Stands (a : Auction) : Type 0 where
   pub marks : (p : ℕ) → p < a .terms .products → 0 < markAt a p
       → (markAt a p ≡ 1) × (isOpen a ≡ true) × (2 ≤ a .round) × (targetOf (setup a) p < held (a .records) (a .terms .bidders) p)
   pub no-mark : (p : ℕ) → a .terms .products ≤ p → p < 8 → markAt a p ≡ 0
-  pub exits : (b p : ℕ) → b < a .terms .bidders → p < a .terms .products → 0 < retainedIn (recordOf a b p)
-      → (priceAt a p < exitIn (recordOf a b p)) × (exitIn (recordOf a b p) ≤ beforeAt a p)
-  pub no-exit : (b p : ℕ) → b < a .terms .bidders → p < a .terms .products → retainedIn (recordOf a b p) ≡ 0
-      → exitIn (recordOf a b p) ≡ 0
+  pub exits : (b p : ℕ) → b < a .terms .bidders → p < a .terms .products
+      → ExitsFit (priceAt a p) (beforeAt a p) (recordOf a b p .retained)
   pub caps : (b p : ℕ) → b < a .terms .bidders → p < a .terms .products → heldIn (recordOf a b p) ≤ capOf (setup a) p
   pub no-bidder : (k : ℕ) → k < 256 → a .terms .bidders ≤ k / 8 → recordZero (recordAt (a .records) k) ≡ true
   pub no-product : (k : ℕ) → k < 256 → a .terms .products ≤ k % 8 → recordZero (recordAt (a .records) k) ≡ true
@@ -80,6 +79,5 @@ pub record Accepted (m : ℕ) (tick : ℕ → Bool) (cap price before : ℕ → 
   pub eligible : sumUpTo (λ p. bidIn (l p)) m ≤ sumUpTo (λ p. goingIn (r p)) m + f
   pub withdrawn : (p : ℕ) → p < m → withdrawnIn (l p) ≤ goingIn (r p) - bidIn (l p)
   pub total : sumUpTo (λ p. withdrawnIn (l p)) m + (increases m r l - f) ≡ reductions m r l
-  pub exits : (p : ℕ) → p < m → 0 < withdrawnIn (l p) → (price p < exitOn (l p)) × (exitOn (l p) ≤ before p)
-  pub no-exit : (p : ℕ) → p < m → withdrawnIn (l p) ≡ 0 → exitOn (l p) ≡ 0
+  pub exits : (p : ℕ) → p < m → ExitsFit (price p) (before p) (l p .withdrawn)
   pub numbered : wrongPriority m r l f ≡ false

@@ -5,8 +5,9 @@ ghost use Prim.Native.Nat.{_+_, _-_, _≤_, _<_, min};
 ghost use Rattle.rules.specs.Units.{kwh, mwDay, unitNumber, unitOf, amountOf, priceOf};
 ghost use Rattle.rules.specs.Allowed.{limits, allows};
 ghost use Rattle.rules.specs.Answers.{phaseOf};
+ghost use Rattle.rules.specs.Lots.{noLot, noLots, countOf, oneLot, lotAt, put, total, firstUsed, lastUsed, lowest, highest, leads, follows, exitFits, exitsFit, lotZero, lotsZero, fewer, takeFirst, retainAt, outbidLot, outbidLast};
 ghost use Rattle.rules.specs.Card.{noLine, lineZero};
-ghost use Rattle.rules.specs.Held.{nothing, goingIn, deniedIn, retainedIn, heldIn, keptIn, retained, denied, cancelled, deemed, switchOutbid, withdrawalOutbid, setTo};
+ghost use Rattle.rules.specs.Held.{nothing, goingIn, deniedIn, retainedIn, exitIn, heldIn, keptIn, retained, denied, cancelled, deemed, switchOutbid, withdrawalOutbid, setTo};
 ghost use Rattle.rules.specs.Legal.{recordZero};
 ghost use Rattle.rules.specs.Accept.{leavingOf, movingOf, riseOf, retain, deny, cancel, deem, outbidSwitch, outbidWithdrawal};
 ghost use Rattle.rules.specs.Price.{fallen, priceFallen, isGiven, overrideLimits, overrideFits, decrementBy};
@@ -247,10 +248,261 @@ pub struct Lot {
     pub exit: u32,
 }
 
+impl Lot {
+    pub fn none() -> Lot
+        ensures { λ r. ⌜ r ≡ noLot ⌝ }
+    {
+        Lot {
+            count: Tranches(0),
+            exit: 0,
+        }
+    }
+
+    pub fn is_zero(self) -> bool
+        ensures { λ r. ⌜ r ≡ lotZero self ⌝ }
+    {
+        (self.count.0 == 0) & (self.exit == 0)
+    }
+
+    // The first lot is used, or zero.
+    pub fn leads(self) -> bool
+        ensures { λ r. ⌜ r ≡ leads self ⌝ }
+    {
+        if 0 < self.count.0 {
+            return true;
+        }
+        self.exit == 0
+    }
+
+    // A lot after another is used only where that one is, at a higher price; or it is zero.
+    pub fn follows(self, x: Lot) -> bool
+        ensures { λ r. ⌜ r ≡ follows x self ⌝ }
+    {
+        if self.count.0 <= 0 {
+            return self.exit == 0;
+        }
+        (0 < x.count.0) & (x.exit < self.exit)
+    }
+
+    // p < x <= q where it is used.
+    pub fn exit_fits(self, p: u32, q: u32) -> bool
+        ensures { λ r. ⌜ r ≡ exitFits p q self ⌝ }
+    {
+        if 0 < self.count.0 {
+            return (p < self.exit) & (self.exit <= q);
+        }
+        true
+    }
+
+    // One less; the price stays.
+    fn fewer(self) -> Lot
+        requires { ⌜ 0 < countOf self ⌝ }
+        ensures { λ r. ⌜ r ≡ fewer self ⌝ }
+    {
+        Lot {
+            count: Tranches(self.count.0 - 1),
+            exit: self.exit,
+        }
+    }
+
+    // One less, and the price is 0 where none is left.
+    fn outbid(self) -> Lot
+        ensures { λ r. ⌜ r ≡ outbidLot self ⌝ }
+    {
+        if 1 < self.count.0 {
+            return self.fewer();
+        }
+        Lot::none()
+    }
+}
+
+// "Prices strictly rise, used lots come first, unused ones are zero."
+pub struct Lots {
+    pub one: Lot,
+    pub two: Lot,
+    pub three: Lot,
+    pub four: Lot,
+}
+
+impl Lots {
+    pub fn none() -> Lots
+        ensures { λ r. ⌜ r ≡ noLots ⌝ }
+    {
+        Lots {
+            one: Lot::none(),
+            two: Lot::none(),
+            three: Lot::none(),
+            four: Lot::none(),
+        }
+    }
+
+    // One lot at one price; no lot where there is nothing at it.
+    pub fn single(count: Tranches, exit: u32) -> Lots
+        ensures { λ r. ⌜ r ≡ oneLot (count .0) exit ⌝ }
+    {
+        if count.0 == 0 {
+            return Lots::none();
+        }
+        Lots {
+            one: Lot { count, exit },
+            two: Lot::none(),
+            three: Lot::none(),
+            four: Lot::none(),
+        }
+    }
+
+    pub fn at(self, i: usize) -> Lot
+        ensures { λ r. ⌜ r ≡ lotAt self i ⌝ }
+    {
+        if i == 0 {
+            return self.one;
+        }
+        if i == 1 {
+            return self.two;
+        }
+        if i == 2 {
+            return self.three;
+        }
+        self.four
+    }
+
+    pub fn put(mut self, i: usize, l: Lot) -> Lots
+        ensures { λ r. ⌜ r ≡ put self i l ⌝ }
+    {
+        if i == 0 {
+            self.one = l;
+            return self;
+        }
+        if i == 1 {
+            self.two = l;
+            return self;
+        }
+        if i == 2 {
+            self.three = l;
+            return self;
+        }
+        self.four = l;
+        self
+    }
+
+    // "the sum of lot counts"
+    pub fn total(self) -> u32
+        ensures { λ r. ⌜ (r ≡ total self) × (r ≤ 262140) ⌝ }
+    {
+        self.one.count.0 as u32
+            + self.two.count.0 as u32
+            + self.three.count.0 as u32
+            + self.four.count.0 as u32
+    }
+
+    pub fn is_zero(self) -> bool
+        ensures { λ r. ⌜ r ≡ lotsZero self ⌝ }
+    {
+        let one = self.one.is_zero();
+        let two = self.two.is_zero();
+        let three = self.three.is_zero();
+        let four = self.four.is_zero();
+        one & (two & (three & four))
+    }
+
+    // The first used lot: that with the lowest price.
+    pub fn first(self) -> usize
+        ensures { λ r. ⌜ r ≡ firstUsed self ⌝ }
+    {
+        if 0 < self.one.count.0 {
+            return 0;
+        }
+        if 0 < self.two.count.0 {
+            return 1;
+        }
+        if 0 < self.three.count.0 {
+            return 2;
+        }
+        3
+    }
+
+    pub fn lowest(self) -> u32
+        ensures { λ r. ⌜ r ≡ lowest self ⌝ }
+    {
+        let l = self.at(self.first());
+        l.exit
+    }
+
+    // The last used lot: that with the highest price.
+    pub fn last(self) -> usize
+        ensures { λ r. ⌜ r ≡ lastUsed self ⌝ }
+    {
+        if 0 < self.four.count.0 {
+            return 3;
+        }
+        if 0 < self.three.count.0 {
+            return 2;
+        }
+        if 0 < self.two.count.0 {
+            return 1;
+        }
+        0
+    }
+
+    pub fn highest(self) -> u32
+        ensures { λ r. ⌜ r ≡ highest self ⌝ }
+    {
+        let l = self.at(self.last());
+        l.exit
+    }
+
+    // 12: "each price, the order and the zero lots".
+    pub fn exits_fit(self, p: u32, q: u32) -> bool
+        ensures { λ r. ⌜ r ≡ exitsFit p q self ⌝ }
+    {
+        let leads = self.one.leads();
+        let second = self.two.follows(self.one);
+        let third = self.three.follows(self.two);
+        let fourth = self.four.follows(self.three);
+        let one = self.one.exit_fits(p, q);
+        let two = self.two.exit_fits(p, q);
+        let three = self.three.exit_fits(p, q);
+        let four = self.four.exit_fits(p, q);
+        (leads & (second & (third & fourth))) & (one & (two & (three & four)))
+    }
+
+    // "Keeping takes the lowest price first".
+    pub fn take_first(self) -> Lots
+        requires { ⌜ 0 < total self ⌝ }
+        ensures { λ r. ⌜ r ≡ takeFirst self ⌝ }
+    {
+        let i = self.first();
+        let l = self.at(i);
+        self.put(i, l.fewer())
+    }
+
+    // One more in the lot at place i, at its price.
+    pub fn retain_at(self, i: usize, exit: u32) -> Lots
+        requires { ⌜ total self < 65535 ⌝ }
+        ensures { λ r. ⌜ r ≡ retainAt self i exit ⌝ }
+    {
+        let l = self.at(i);
+        let one = Lot {
+            count: Tranches(l.count.0 + 1),
+            exit,
+        };
+        self.put(i, one)
+    }
+
+    // "outbidding the highest".
+    pub fn outbid_last(self) -> Lots
+        ensures { λ r. ⌜ r ≡ outbidLast self ⌝ }
+    {
+        let i = self.last();
+        let l = self.at(i);
+        self.put(i, l.outbid())
+    }
+}
+
 // A card's fields for one product.
 pub struct Line {
     pub tranches: Tranches,
-    pub withdrawn: Lot,
+    pub withdrawn: Lots,
     pub priority: u8,
 }
 
@@ -260,10 +512,7 @@ impl Line {
     {
         Line {
             tranches: Tranches(0),
-            withdrawn: Lot {
-                count: Tranches(0),
-                exit: 0,
-            },
+            withdrawn: Lots::none(),
             priority: 0,
         }
     }
@@ -271,8 +520,8 @@ impl Line {
     pub fn is_zero(self) -> bool
         ensures { λ r. ⌜ r ≡ lineZero self ⌝ }
     {
-        (self.tranches.0 == 0)
-            & ((self.withdrawn.count.0 == 0) & ((self.withdrawn.exit == 0) & (self.priority == 0)))
+        let none = self.withdrawn.is_zero();
+        (self.tranches.0 == 0) & (none & (self.priority == 0))
     }
 }
 
@@ -296,11 +545,11 @@ pub struct CardRead {
 
 // ---- What is held
 
-// One bidder on one product: g at the going price, d denied switches, r retained withdrawals.
+// One bidder on one product: g at the going price, d denied switches, r retained withdrawals, "kept per lot".
 pub struct Record {
     pub going: Tranches,
     pub denied: Tranches,
-    pub retained: Lot,
+    pub retained: Lots,
 }
 
 // The record of one bidder on one product is changed and handed back.
@@ -311,40 +560,36 @@ impl Record {
         Record {
             going: Tranches(0),
             denied: Tranches(0),
-            retained: Lot {
-                count: Tranches(0),
-                exit: 0,
-            },
+            retained: Lots::none(),
         }
     }
 
     pub fn held(self) -> u32
-        ensures { λ r. ⌜ (r ≡ heldIn self) × (r ≤ 196605) ⌝ }
+        ensures { λ r. ⌜ (r ≡ heldIn self) × (r ≤ 393210) ⌝ }
     {
-        self.going.0 as u32 + self.denied.0 as u32 + self.retained.count.0 as u32
+        self.going.0 as u32 + self.denied.0 as u32 + self.retained.total()
     }
 
     pub fn kept(self) -> u32
-        ensures { λ r. ⌜ (r ≡ keptIn self) × (r ≤ 131070) ⌝ }
+        ensures { λ r. ⌜ (r ≡ keptIn self) × (r ≤ 327675) ⌝ }
     {
-        self.denied.0 as u32 + self.retained.count.0 as u32
+        self.denied.0 as u32 + self.retained.total()
     }
 
     pub fn is_zero(self) -> bool
         ensures { λ r. ⌜ r ≡ recordZero self ⌝ }
     {
-        (self.going.0 == 0)
-            & ((self.denied.0 == 0) & ((self.retained.count.0 == 0) & (self.retained.exit == 0)))
+        let none = self.retained.is_zero();
+        (self.going.0 == 0) & ((self.denied.0 == 0) & none)
     }
 
-    // A withdrawal is retained at its exit price.
-    pub fn retain(mut self, exit: u32) -> Record
+    // A withdrawal of the card's lot at place i is retained in the same lot, at its exit price.
+    pub fn retain(mut self, i: usize, exit: u32) -> Record
         requires { ⌜ retainedIn self < 65535 ⌝ }
-        ensures { λ r. ⌜ r ≡ retained self exit ⌝ }
+        ensures { λ r. ⌜ r ≡ retained self i exit ⌝ }
     {
-        let n = self.retained.count.0 + 1;
-        self.retained.count.0 = n;
-        self.retained.exit = exit;
+        let l = self.retained.retain_at(i, exit);
+        self.retained = l;
         self
     }
 
@@ -389,18 +634,12 @@ impl Record {
         self
     }
 
-    // A retained withdrawal is outbid, and the exit price is 0 where none is left.
+    // A retained withdrawal is outbid, that of the highest exit price.
     pub fn outbid_withdrawal(mut self) -> Record
-        requires { ⌜ 0 < retainedIn self ⌝ }
         ensures { λ r. ⌜ r ≡ withdrawalOutbid self ⌝ }
     {
-        let n = self.retained.count.0 - 1;
-        if self.retained.count.0 <= 1 {
-            self.retained.count.0 = n;
-            self.retained.exit = 0;
-            return self;
-        }
-        self.retained.count.0 = n;
+        let l = self.retained.outbid_last();
+        self.retained = l;
         self
     }
 
@@ -535,23 +774,24 @@ pub enum Pick {
 // the switches not denied and the increases not cancelled.
 pub struct Place {
     pub holds: Record,
-    pub leaving: Lot,
+    pub leaving: Lots,
     pub moving: Tranches,
     pub rise: Tranches,
     pub priority: u8,
 }
 
 impl Place {
-    // One withdrawal not kept becomes a retained one at the bid's exit price.
+    // One withdrawal not kept, of the lowest exit price, becomes a retained one at that price.
     pub fn retain(mut self) -> Place
         requires { ⌜ (0 < leavingOf self) × (retainedIn (self .holds) < 65535) ⌝ }
         ensures { λ r. ⌜ r ≡ retain self ⌝ }
     {
-        let exit = self.leaving.exit;
-        let n = self.leaving.count.0 - 1;
-        let h = self.holds.retain(exit);
+        let i = self.leaving.first();
+        let l = self.leaving.at(i);
+        let left = self.leaving.take_first();
+        let h = self.holds.retain(i, l.exit);
         self.holds = h;
-        self.leaving.count.0 = n;
+        self.leaving = left;
         self
     }
 
@@ -598,7 +838,6 @@ impl Place {
     }
 
     pub fn outbid_withdrawal(mut self) -> Place
-        requires { ⌜ 0 < retainedIn (self .holds) ⌝ }
         ensures { λ r. ⌜ r ≡ outbidWithdrawal self ⌝ }
     {
         let h = self.holds.outbid_withdrawal();

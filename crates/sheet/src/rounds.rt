@@ -10,6 +10,8 @@ use paper::put_price;
 use paper::put_product;
 use paper::put_unit;
 use paper::room;
+use rules::Lot;
+use rules::Lots;
 use story::Moves;
 use story::moves_of;
 use text::ANSWER;
@@ -17,11 +19,33 @@ use text::put;
 
 // ---- What was done, summed
 
-fn added(a: Moves, b: Moves) -> Moves {
-    Moves {
+// As the moves of a bidder on a product, of all lots together.
+struct Sums {
+    bid: u32,
+    retained: u32,
+    denied: u32,
+    cancelled: u32,
+    deemed: u32,
+    freed: u32,
+    gone: u32,
+}
+
+fn sums_of(m: Moves) -> Sums {
+    Sums {
+        bid: m.bid,
+        retained: m.retained.total(),
+        denied: m.denied,
+        cancelled: m.cancelled,
+        deemed: m.deemed,
+        freed: m.freed,
+        gone: m.gone.total(),
+    }
+}
+
+fn added(a: Sums, b: Sums) -> Sums {
+    Sums {
         bid: std::num::wrapping_add_u32(a.bid, b.bid),
         retained: std::num::wrapping_add_u32(a.retained, b.retained),
-        exit: 0,
         denied: std::num::wrapping_add_u32(a.denied, b.denied),
         cancelled: std::num::wrapping_add_u32(a.cancelled, b.cancelled),
         deemed: std::num::wrapping_add_u32(a.deemed, b.deemed),
@@ -30,11 +54,10 @@ fn added(a: Moves, b: Moves) -> Moves {
     }
 }
 
-fn nothing() -> Moves {
-    Moves {
+fn nothing() -> Sums {
+    Sums {
         bid: 0,
         retained: 0,
-        exit: 0,
         denied: 0,
         cancelled: 0,
         deemed: 0,
@@ -44,7 +67,7 @@ fn nothing() -> Moves {
 }
 
 // Of all bidders on a product.
-fn on_product(before: &[u8; STATE], after: &[u8; STATE], p: usize) -> Moves
+fn on_product(before: &[u8; STATE], after: &[u8; STATE], p: usize) -> Sums
     requires { ⌜ p < 8 ⌝ }
 {
     let n = book::bidders(before);
@@ -54,14 +77,14 @@ fn on_product(before: &[u8; STATE], after: &[u8; STATE], p: usize) -> Moves
         if n <= b {
             return sum;
         }
-        sum = added(sum, moves_of(before, after, b, p));
+        sum = added(sum, sums_of(moves_of(before, after, b, p)));
         b += 1;
     }
     sum
 }
 
 // Of a bidder on all products.
-fn of_bidder(before: &[u8; STATE], after: &[u8; STATE], b: usize) -> Moves
+fn of_bidder(before: &[u8; STATE], after: &[u8; STATE], b: usize) -> Sums
     requires { ⌜ b < 32 ⌝ }
 {
     let n = book::products(before);
@@ -71,13 +94,13 @@ fn of_bidder(before: &[u8; STATE], after: &[u8; STATE], b: usize) -> Moves
         if n <= p {
             return sum;
         }
-        sum = added(sum, moves_of(before, after, b, p));
+        sum = added(sum, sums_of(moves_of(before, after, b, p)));
         p += 1;
     }
     sum
 }
 
-fn in_all(before: &[u8; STATE], after: &[u8; STATE]) -> Moves {
+fn in_all(before: &[u8; STATE], after: &[u8; STATE]) -> Sums {
     let n = book::products(before);
     let mut sum = nothing();
     let mut p: usize = 0;
@@ -92,16 +115,16 @@ fn in_all(before: &[u8; STATE], after: &[u8; STATE]) -> Moves {
 }
 
 // Tranches kept in step 2, and outbid in step 4.
-fn kept(m: Moves) -> u32 {
+fn kept(m: Sums) -> u32 {
     std::num::wrapping_add_u32(m.retained, m.denied)
 }
 
-fn outbid(m: Moves) -> u32 {
+fn outbid(m: Sums) -> u32 {
     std::num::wrapping_add_u32(m.freed, m.gone)
 }
 
 // Whether more was done than to take the bids as they are.
-fn is_eventful(m: Moves) -> bool {
+fn is_eventful(m: Sums) -> bool {
     (kept(m) != 0) | (outbid(m) != 0) | (m.cancelled != 0) | (m.deemed != 0)
 }
 
@@ -247,6 +270,20 @@ fn put_defaults(
     to
 }
 
+// `N `, of what is done on a product.
+fn put_first(out: &mut [u8; ANSWER], at: usize, p: usize, what: &[u8], n: u32) -> usize {
+    let a = one(out, at, b" <span data-product=\"#\" data-what=\"", p as u64);
+    let b = put(out, a, what);
+    one(out, b, b"\"><b>#</b> ", n as u64)
+}
+
+// The price at its end.
+fn put_at(out: &mut [u8; ANSWER], at: usize, unit: u8, amount: u32) -> usize {
+    let a = one(out, at, b" at <i data-price=\"#\">", amount as u64);
+    let b = put_price(out, a, unit, amount);
+    put(out, b, b"</i></span>")
+}
+
 // `N WORDS 0 PSE&G`: the words end in `product`.
 fn put_move(
     out: &mut [u8; ANSWER],
@@ -257,11 +294,9 @@ fn put_move(
     n: u32,
     words: &[u8],
 ) -> usize {
-    let mut to = one(out, at, b" <span data-product=\"#\" data-what=\"", p as u64);
-    to = put(out, to, what);
-    to = one(out, to, b"\"><b>#</b> ", n as u64);
-    to = put(out, to, words);
-    put_product(out, to, names, p)
+    let a = put_first(out, at, p, what, n);
+    let b = put(out, a, words);
+    put_product(out, b, names, p)
 }
 
 fn put_plain(
@@ -296,9 +331,52 @@ fn put_priced(
         return at;
     }
     let a = put_move(out, at, names, p, what, n, words);
-    let b = one(out, a, b" at <i data-price=\"#\">", amount as u64);
-    let c = put_price(out, b, unit, amount);
-    put(out, c, b"</i></span>")
+    put_at(out, a, unit, amount)
+}
+
+// A lot, at its price; of how many, where it is a part.
+fn put_lot(
+    out: &mut [u8; ANSWER],
+    at: usize,
+    names: &[u8; NAMES],
+    p: usize,
+    what: &[u8],
+    lot: Lot,
+    of: Lot,
+    words: &[u8],
+    unit: u8,
+) -> usize {
+    if lot.count.0 == 0 {
+        return at;
+    }
+    let mut to = put_first(out, at, p, what, lot.count.0 as u32);
+    if lot.count.0 < of.count.0 {
+        to = one(out, to, b"of # ", of.count.0 as u64);
+    }
+    to = put(out, to, words);
+    to = put_product(out, to, names, p);
+    put_at(out, to, unit, lot.exit)
+}
+
+// Each lot by itself.
+fn put_lots(
+    out: &mut [u8; ANSWER],
+    at: usize,
+    names: &[u8; NAMES],
+    p: usize,
+    what: &[u8],
+    l: Lots,
+    of: Lots,
+    words: &[u8],
+    unit: u8,
+) -> usize {
+    let mut to = at;
+    let mut i: usize = 0;
+    while i < 4 {
+        to = put_lot(out, to, names, p, what, l.at(i), of.at(i), words, unit);
+        i += 1;
+    }
+    to
 }
 
 fn put_moves(
@@ -316,16 +394,20 @@ fn put_moves(
     let unit = book::unit(before);
     let q = book::before(after, p).amount();
     let going = book::price(before, p).amount();
-    let mut to = put_priced(
+    let withdrawn = m.withdrawn;
+    let retained = m.retained;
+    let stood = m.stood;
+    let gone = m.gone;
+    let mut to = put_lots(
         out,
         at,
         names,
         p,
         b"retained",
-        m.retained,
+        retained,
+        withdrawn,
         b"retained on product ",
         unit,
-        m.exit,
     );
     to = put_priced(
         out,
@@ -367,14 +449,16 @@ fn put_moves(
         m.freed,
         b"denied outbid, free again, on product ",
     );
-    put_plain(
+    put_lots(
         out,
         to,
         names,
         p,
         b"gone",
-        m.gone,
+        gone,
+        stood,
         b"retained outbid, gone, on product ",
+        unit,
     )
 }
 

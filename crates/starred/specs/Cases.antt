@@ -14,10 +14,11 @@ use Rattle.rules.specs.Count.{allUpTo, from, listOf}
 use Rattle.rules.specs.Units.{tranches, amountOf, quote}
 use Rattle.rules.specs.Answers.{bidsOpen, closed}
 use Rattle.rules.specs.Bits.{setIn}
-use Rattle.rules.specs.Card.{line, noLine}
+use Rattle.rules.specs.Lots.{firstUsed, lastUsed, inOrder, exitsFit, oneLot}
+use Rattle.rules.specs.Card.{line as lineOf, noLine}
 use Rattle.rules.specs.Parts.{lane, noLane, seat, noSeat, row, noRow, table, noCards, auction}
 use Rattle.rules.specs.Settings.{item, noItem, targetOf, capOf, startOf}
-use Rattle.rules.specs.Held.{entry, nothing, held, excess}
+use Rattle.rules.specs.Held.{entry as entryOf, nothing, held, excess}
 use Rattle.rules.specs.Bid.{judged}
 use Rattle.rules.specs.Keep.{keepLoop}
 use Rattle.rules.specs.Outbid.{deemedUpTo, outbidLoop}
@@ -48,6 +49,13 @@ state t phase round p₀ p₁ q₀ q₁ rs f =
     (lane (targetOf t 0) (capOf t 0) (startOf t 0) p₀ q₀ 0 ∷ lane (targetOf t 1) (capOf t 1) (startOf t 1) p₁ q₁ 0 ∷ replicate 6 noLane)
     (seat 3 f ∷ seat 3 0 ∷ seat 3 0 ∷ replicate 29 noSeat)
     (t .decrements) rs noCards
+
+-- a record and a card's line as document 01 has them: withdrawals at one exit price, which are one lot
+abbrev pub entry : ℕ → ℕ → ℕ → ℕ → Record
+entry g d r x = entryOf g d (oneLot r x)
+
+abbrev pub line : ℕ → ℕ → ℕ → ℕ → Line
+line b w x k = lineOf b (oneLot w x) k
 
 -- tranches at the going price, and nothing withdrawn or switched
 abbrev pub g : ℕ → Record
@@ -177,5 +185,5 @@ starred =
 
 -- every starred case of document 01 is as it says
 pub starred-hold : All starred
-unfolding Holds All starred allUpTo from setIn judged keepLoop deemedUpTo outbidLoop calculated resultOf stands opened withCard
+unfolding Holds All starred allUpTo from setIn firstUsed lastUsed inOrder exitsFit judged keepLoop deemedUpTo outbidLoop calculated resultOf stands opened withCard
 starred-hold = ((refl, refl, refl, refl, refl, refl), ((refl, refl, refl, refl, refl, refl), ((refl, refl, refl, refl, refl, refl), ((refl, refl), ((refl, refl, refl, refl, refl, refl), ((refl, refl), ((refl, refl, refl, refl, refl, refl), ((refl, refl, refl, refl, refl, refl), ((refl, refl, refl, refl, refl, refl), ((refl, refl, refl, refl, refl, refl), ((refl, refl, refl, refl, refl, refl), ((refl, refl), (refl, (refl, (refl, (refl, (refl, (refl, (refl, (refl, (refl, tt)))))))))))))))))))))

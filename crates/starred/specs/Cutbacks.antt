@@ -11,9 +11,9 @@ use Rattle.rules.specs.Count.{allUpTo, from}
 use Rattle.rules.specs.Units.{tranches}
 use Rattle.rules.specs.Answers.{bidsOpen, stopped}
 use Rattle.rules.specs.Bits.{setIn}
-use Rattle.rules.specs.Card.{line}
+use Rattle.rules.specs.Lots.{firstUsed, lastUsed, inOrder, exitsFit}
 use Rattle.rules.specs.Settings.{item}
-use Rattle.rules.specs.Held.{entry, held, ticked, excess}
+use Rattle.rules.specs.Held.{held, ticked, excess}
 use Rattle.rules.specs.Bid.{judged}
 use Rattle.rules.specs.Keep.{keepLoop}
 use Rattle.rules.specs.Outbid.{deemedUpTo, outbidLoop}
@@ -21,7 +21,7 @@ use Rattle.rules.specs.Round.{calculated}
 use Rattle.rules.specs.Cutback.{mayCut, revised, reduced, cutBack, suggestedVolume, suggestedNumber}
 use Rattle.rules.specs.Legal.{stands}
 use Rattle.rules.specs.Calls.{opened, withCard}
-use Rattle.starred.specs.Cases.{Case, Holds, settings, book, state, g, b, card, draw}
+use Rattle.starred.specs.Cases.{Case, Holds, settings, book, state, entry, line, g, b, card, draw}
 use Rattle.starred.specs.Cases.Case.{round}
 
 -- ---- how a row is written
@@ -146,6 +146,6 @@ cutbacks =
 
 -- every row is as it says
 pub cutbacks-hold : AllStated cutbacks
-unfolding Stated AllStated Holds cutbacks allUpTo from setIn judged keepLoop deemedUpTo outbidLoop calculated stands opened withCard revised reduced cutBack
+unfolding Stated AllStated Holds cutbacks allUpTo from setIn firstUsed lastUsed inOrder exitsFit judged keepLoop deemedUpTo outbidLoop calculated stands opened withCard revised reduced cutBack
 cutbacks-hold =
     ((refl, refl, refl, refl, refl, refl), ((refl, refl, refl, refl, refl, refl, refl), ((refl, refl, refl, refl, refl, refl, refl), ((refl, refl, refl, refl, refl, refl, refl), ((refl, refl, refl, refl, refl, refl, refl), ((refl, refl, refl, refl, refl, refl, refl), ((refl, refl, refl, refl, refl, refl, refl), ((refl, refl), ((refl, refl), ((refl, refl), ((refl, refl), ((refl, refl), ((refl, refl), ((refl, refl), ((refl, refl), ((refl, refl), ((refl, refl), ((refl, refl), ((refl, refl, refl, refl, refl, refl, refl), ((refl, refl, refl, refl, refl, refl), ((refl, refl), ((refl, refl), tt))))))))))))))))))))))

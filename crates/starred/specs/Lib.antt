@@ -1,3 +1,4 @@
 pub mod Cases
 pub mod Cutbacks
 pub mod Overrides
+pub mod Lots

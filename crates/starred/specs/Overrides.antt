@@ -13,7 +13,7 @@ use Rattle.rules.specs.Count.{allUpTo, from}
 use Rattle.rules.specs.Units.{tranches, points}
 use Rattle.rules.specs.Answers.{bidsOpen, closed, stopped}
 use Rattle.rules.specs.Bits.{setIn}
-use Rattle.rules.specs.Card.{line}
+use Rattle.rules.specs.Lots.{firstUsed, lastUsed, inOrder, exitsFit}
 use Rattle.rules.specs.Parts.{lane, noLane, seat, noSeat, row, noRow, table, noCards, auction}
 use Rattle.rules.specs.Settings.{item, noItem}
 use Rattle.rules.specs.Held.{nothing}
@@ -24,7 +24,7 @@ use Rattle.rules.specs.Round.{notChosen, calculated}
 use Rattle.rules.specs.Cutback.{mayCut, revised, reduced, cutBack}
 use Rattle.rules.specs.Legal.{stands}
 use Rattle.rules.specs.Calls.{opened, withCard, roundNumber}
-use Rattle.starred.specs.Cases.{g, b, card, figures}
+use Rattle.starred.specs.Cases.{line, g, b, card, figures}
 
 -- ---- how a row is written
 
@@ -124,6 +124,6 @@ overrides =
 
 -- every row is as it says
 pub overrides-hold : AllShown overrides
-unfolding Shown AllShown overrides allUpTo from setIn judged keepLoop deemedUpTo outbidLoop calculated stands opened withCard revised reduced cutBack
+unfolding Shown AllShown overrides allUpTo from setIn firstUsed lastUsed inOrder exitsFit judged keepLoop deemedUpTo outbidLoop calculated stands opened withCard revised reduced cutBack
 overrides-hold =
     ((refl, refl, refl, refl), ((refl, refl, refl, refl), ((refl, refl, refl, refl), ((refl, refl, refl, refl), ((refl, refl, refl, refl), ((refl, refl, refl, refl), ((refl, refl, refl, refl), ((refl, refl, refl, refl), ((refl, refl, refl, refl), ((refl, refl, refl, refl), ((refl, refl, refl, refl), (refl, (refl, (refl, (refl, (refl, tt))))))))))))))))

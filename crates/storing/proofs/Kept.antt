@@ -5,7 +5,7 @@ use Prim.Native.Nat.{ℕ, zero, suc, _+_, _*_, _/_, _%_, _≤_, _<_}
 use native.Mathlib.Omega.{arith}
 use lib.ListN.{length, getD, take, drop}
 use lib.Seq.{drop-cons, take-add, drop-drop, take-all}
-use Rattle.rules.specs.Layout.{bytesUpTo, byte1, bytes2, bytes3, bytes4, headBytes, laneBytes, seatBytes, rowBytes, recordBytes, lineBytes, stored, read1, read2, read3, read4, stateLength, loaded, productWidth, bidderWidth, rowWidth, recordWidth, lineWidth, productsFrom, biddersFrom, rowsFrom, recordsFrom, bidsFrom}
+use Rattle.rules.specs.Layout.{bytesUpTo, byte1, bytes2, bytes3, bytes4, headBytes, laneBytes, seatBytes, rowBytes, lotBytes, lotsBytes, recordBytes, lineBytes, stored, read1, read2, read3, read4, lotRead, lotsRead, stateLength, loaded, productWidth, bidderWidth, rowWidth, lotWidth, lotsWidth, recordWidth, lineWidth, productsFrom, biddersFrom, rowsFrom, recordsFrom, bidsFrom}
 use Rattle.rules.specs.Card.{noLine}
 use Rattle.rules.specs.Parts.{laneAt, seatAt, noRow}
 use Rattle.rules.specs.Held.{recordAt}
@@ -75,6 +75,9 @@ module _ (s : List ℕ) (B : Bytes s) where
       let e : suc n * w ≡ n * w + w = omega arith in
       rw e (on (parts part w k n (λ i l. h i (omega arith))) (h n (omega arith)) (omega arith))
 
+  lot : (k : ℕ) → Stands k lotWidth (lotBytes (lotRead s k))
+  lot k = on (one k refl) (three (k + 1) refl) refl
+
   -- ---- the sections
 
   head : Stands 0 13 (headBytes (loaded s))
@@ -95,15 +98,19 @@ module _ (s : List ℕ) (B : Bytes s) where
   row : (i : ℕ) → i < 8 → Stands (i * rowWidth + rowsFrom) rowWidth (rowBytes (getD (loaded s .decrements .row) i noRow))
   row i h = let n = i * rowWidth + rowsFrom in rw (row-read s i h) (on (two n refl) (two (n + 2) refl) refl)
 
+  lots : (k : ℕ) → Stands k lotsWidth (lotsBytes (lotsRead s k))
+  unfolding lotsBytes lotsRead
+  lots k = on (on (on (lot k) (lot (k + lotWidth)) refl) (lot (k + 2 * lotWidth)) refl) (lot (k + 3 * lotWidth)) refl
+
   entry : (k : ℕ) → k < 256 → Stands (k * recordWidth + recordsFrom) recordWidth (recordBytes (recordAt (loaded s .records) k))
   entry k h =
       let n = k * recordWidth + recordsFrom in
-      rw (record-read s k h) (on (on (on (one n refl) (one (n + 1) refl) refl) (one (n + 2) refl) refl) (three (n + 3) refl) refl)
+      rw (record-read s k h) (on (on (one n refl) (one (n + 1) refl) refl) (lots (n + 2)) refl)
 
   line : (k : ℕ) → k < 256 → Stands (k * lineWidth + bidsFrom) lineWidth (lineBytes (getD (loaded s .cards .lines) k noLine))
   line k h =
       let n = k * lineWidth + bidsFrom in
-      rw (line-read s k h) (on (on (on (one n refl) (one (n + 1) refl) refl) (three (n + 2) refl) refl) (one (n + 5) refl) refl)
+      rw (line-read s k h) (on (on (one n refl) (lots (n + 1)) refl) (one (n + 1 + lotsWidth) refl) (omega arith))
 
   pub kept : length s ≡ stateLength → stored (loaded s) ≡ s
   unfolding stored

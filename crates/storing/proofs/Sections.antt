@@ -8,6 +8,7 @@ use lib.Seq.{sets, sets-eq, length-take-le, take-add}
 use Rattle.rules.specs.declared.Tranches.{Tranches}
 use Rattle.rules.specs.declared.Quote.{Quote}
 use Rattle.rules.specs.declared.Line.{Line}
+use Rattle.rules.specs.declared.Record.{Record}
 use Rattle.rules.specs.declared.Auction.{Auction}
 use Rattle.rules.specs.declared.Setup.{Setup}
 use Rattle.rules.specs.declared.Place.{Place}
@@ -16,9 +17,9 @@ use Rattle.rules.specs.Parts.{tranchesAt, noLane, laneAt, priced, marked, limit
 use Rattle.rules.specs.Held.{recordAt, nothing}
 use Rattle.rules.specs.Accept.{placeAt}
 use Rattle.rules.specs.Calls.{opened}
-use Rattle.rules.specs.Layout.{stateLength, byte1, bytes2, bytes3, bytes4, bytesUpTo, headBytes, laneBytes, seatBytes, rowBytes, recordBytes, lineBytes, stored, headWidth, productWidth, bidderWidth, rowWidth, recordWidth, lineWidth, productsFrom, biddersFrom, rowsFrom, recordsFrom, bidsFrom}
+use Rattle.rules.specs.Layout.{stateLength, byte1, bytes2, bytes3, bytes4, bytesUpTo, headBytes, laneBytes, seatBytes, rowBytes, lotsBytes, recordBytes, lineBytes, stored, headWidth, productWidth, bidderWidth, rowWidth, recordWidth, lineWidth, productsFrom, biddersFrom, rowsFrom, recordsFrom, bidsFrom}
 use Rattle.rules.proofs.Lists.{list-at, list-ext}
-use Rattle.rules.proofs.Storing.{parts-long}
+use Rattle.rules.proofs.Storing.{parts-long, record-wide, line-wide}
 use Rattle.storing.specs.Written.{withFiled, withLines, withSlot, withoutLines, amountAt, recordsIn, each}
 use Rattle.storing.proofs.Each.{section, parts-append}
 
@@ -86,7 +87,8 @@ module _ (a : Auction) where
   rows-long = longer toSeats rowPart rowWidth rowsFrom 8 (λ k. refl) seats-long
 
   records-long : length (toRows ++ recordsPart) ≡ bidsFrom
-  records-long = longer toRows (λ k. recordBytes (recordAt (a .records) k)) recordWidth recordsFrom 256 (λ k. refl) rows-long
+  records-long = longer toRows (λ k. recordBytes (recordAt (a .records) k)) recordWidth recordsFrom 256
+      (λ k. record-wide (recordAt (a .records) k)) rows-long
 
   lanes-in : stored a ≡ headBytes a ++ (bytesUpTo lanePart 8 ++ (bytesUpTo seatPart 32 ++ bytesUpTo rowPart 8 ++ recordsPart ++ linesPart))
   unfolding stored
@@ -105,6 +107,18 @@ module _ (a : Auction) where
   lines-in = ap (λ l. toRows ++ recordsPart ++ l) (sym (append-nil linesPart))
 
 -- ---- one section anew
+
+-- written over from its first byte on, bytes of the same length are all that is left
+over : (x vs : List ℕ) (w : ℕ) → length x ≡ w → length vs ≡ w → sets x 0 vs ≡ vs
+over x vs w e f =
+    let h : length x ≤ 0 + length vs = omega arith in
+    sets-eq vs x 0 (omega arith) ∙ rw drop-of-length-le (append-nil vs)
+
+record-over : (r q : Record) → sets (recordBytes r) 0 (recordBytes q) ≡ recordBytes q
+record-over r q = over (recordBytes r) (recordBytes q) recordWidth (record-wide r) (record-wide q)
+
+line-over : (l m : Line) → sets (lineBytes l) 0 (lineBytes m) ≡ lineBytes m
+line-over l m = over (lineBytes l) (lineBytes m) lineWidth (line-wide l) (line-wide m)
 
 module _ (a : Auction) where
   pub free-written : (fs : List Tranches) → each (λ b. bytes2 (tranchesAt fs b)) (biddersFrom + 2) bidderWidth 32 (stored a) ≡ stored (withFree a (tranchesAt fs))
@@ -147,14 +161,14 @@ module _ (a : Auction) where
       → each (λ k. recordBytes (placeAt ps k .holds)) recordsFrom recordWidth 256 (stored a) ≡ stored (withRecords a (recordsIn ps))
   records-written ps =
       let z = withRecords a (recordsIn ps) in
-      section (λ k. recordBytes (recordAt (a .records) k)) (λ k. recordBytes (recordAt (z .records) k)) _ 6 0 256 (λ i. refl) (λ i. refl)
-      (λ i. omega arith) (λ i h. rw (list-at _ nothing 256 i h)) (toRows a) recordsFrom (omega (arith, rows-long a)) _ (records-in a) (records-in z)
+      section (λ k. recordBytes (recordAt (a .records) k)) (λ k. recordBytes (recordAt (z .records) k)) _ recordWidth 0 256
+      (λ i. record-wide (recordAt (a .records) i)) (λ i. record-wide (recordAt (z .records) i)) (λ i. omega (arith, record-wide (placeAt ps i .holds))) (λ i h. rw (list-at _ nothing 256 i h) (record-over (recordAt (a .records) i) (placeAt ps i .holds))) (toRows a) recordsFrom (omega (arith, rows-long a)) _ (records-in a) (records-in z)
 
   pub lines-gone : each (λ k. lineBytes noLine) bidsFrom lineWidth 256 (stored a) ≡ stored (withoutLines a)
   lines-gone =
       let z = withoutLines a in
-      section (λ k. lineBytes (getD (a .cards .lines) k noLine)) (λ k. lineBytes (getD (z .cards .lines) k noLine)) _ 6 0 256 (λ i. refl) (λ i. refl)
-      (λ i. omega arith) (λ i h. rw (getD-replicate 256 i noLine noLine h)) (toRows a ++ recordsPart a) bidsFrom (omega (arith, records-long a)) []
+      section (λ k. lineBytes (getD (a .cards .lines) k noLine)) (λ k. lineBytes (getD (z .cards .lines) k noLine)) _ lineWidth 0 256
+      (λ i. line-wide (getD (a .cards .lines) i noLine)) (λ i. line-wide (getD (z .cards .lines) i noLine)) (λ i. omega (arith, line-wide noLine)) (λ i h. rw (getD-replicate 256 i noLine noLine h) (line-over (getD (a .cards .lines) i noLine) noLine)) (toRows a ++ recordsPart a) bidsFrom (omega (arith, records-long a)) []
       (lines-in a) (lines-in z)
 
 -- ---- a slot
@@ -164,6 +178,9 @@ module _ (a : Auction) (u v x w : List Line) (m n : ℕ) (before : length u ≡ 
     (all : m + 8 + n ≡ 256) where
   abbrev part : List Line → ℕ → List ℕ
   part ls k = lineBytes (getD ls k noLine)
+
+  wide : (ls : List Line) (k : ℕ) → length (part ls k) ≡ lineWidth
+  wide ls k = line-wide (getD ls k noLine)
 
   split : (y : List Line) → length y ≡ 8
       → bytesUpTo (part (u ++ y ++ w)) 256 ≡ bytesUpTo (part u) m ++ (bytesUpTo (part y) 8 ++ bytesUpTo (part w) n)
@@ -184,8 +201,8 @@ module _ (a : Auction) (u v x w : List Line) (m n : ℕ) (before : length u ≡ 
 
   middle : each (part x) (m * lineWidth + bidsFrom) lineWidth 8 (stored (withLines a (u ++ v ++ w))) ≡ stored (withLines a (u ++ x ++ w))
   middle =
-      section (part v) (part x) (part x) 6 0 8 (λ i. refl) (λ i. refl) (λ i. omega arith) (λ i h. refl)
-      (front ++ bytesUpTo (part u) m) (m * lineWidth + bidsFrom) (omega (arith, longer front (part u) lineWidth bidsFrom m (λ k. refl) (records-long a)))
+      section (part v) (part x) (part x) lineWidth 0 8 (wide v) (wide x) (λ i. omega (arith, wide x i)) (λ i h. line-over (getD v i noLine) (getD x i noLine))
+      (front ++ bytesUpTo (part u) m) (m * lineWidth + bidsFrom) (omega (arith, longer front (part u) lineWidth bidsFrom m (wide u) (records-long a)))
       (bytesUpTo (part w) n) (stands v old) (stands x new)
 
 pub slot-written : (a : Auction) (b : ℕ) (ls : List Line) → b < 32 → length ls ≡ 8 → length (a .cards .lines) ≡ 256
@@ -214,18 +231,12 @@ zeros-are part w (suc n) h =
     let e : suc n * w ≡ n * w + w = omega arith in
     rw e (ap₂ _++_ (zeros-are part w n (λ k l. h k (omega arith))) (h n (omega arith)) ∙ replicate-append-replicate (n * w) w 0)
 
-over : (w : ℕ) (vs : List ℕ) → length vs ≡ w → sets (replicate w 0) 0 vs ≡ vs
-over w vs e =
-    let z : List ℕ = replicate w 0 in
-    let h : length z ≤ 0 + length vs = omega (arith, length-replicate {A = ℕ} w 0) in
-    sets-eq vs z 0 (omega (arith, length-replicate {A = ℕ} w 0)) ∙ rw drop-of-length-le (append-nil vs)
-
 -- parts written behind x, where m zeros are left
 onto : (part : ℕ → List ℕ) (w : ℕ) → ((k : ℕ) → length (part k) ≡ w) → (x : List ℕ) (k n m : ℕ) → length x ≡ k
     → each part k w n (x ++ replicate (n * w + m) 0) ≡ x ++ bytesUpTo part n ++ replicate m 0
 onto part w wide x k n m e =
     section (λ i. replicate w 0) part part w 0 n (λ i. length-replicate w 0) wide (λ i. omega (arith, wide i))
-    (λ i h. over w (part i) (wide i)) x k (omega arith) (replicate m 0)
+    (λ i h. over (replicate w 0) (part i) w (length-replicate w 0) (wide i)) x k (omega arith) (replicate m 0)
     (ap (λ z. x ++ z) (
     sym (replicate-append-replicate (n * w) m 0) ∙ ap (λ z. z ++ replicate m 0) (sym (zeros-are (λ i. replicate w 0) w n (λ i h. refl)))))
     (append-assoc x (bytesUpTo part n) (replicate m 0))
@@ -240,12 +251,12 @@ first h e =
 
 module _ (t : Setup) where
   no-records : recordsPart (opened t) ≡ replicate (256 * recordWidth) 0
-  unfolding opened
-  no-records = zeros-are _ 6 256 (λ k h. ap (λ r. recordBytes r) (getD-replicate 256 k nothing nothing h))
+  unfolding opened lotsBytes
+  no-records = zeros-are _ recordWidth 256 (λ k h. ap (λ r. recordBytes r) (getD-replicate 256 k nothing nothing h))
 
   no-lines : linesPart (opened t) ≡ replicate (256 * lineWidth) 0
-  unfolding opened
-  no-lines = zeros-are _ 6 256 (λ k h. ap (λ l. lineBytes l) (getD-replicate 256 k noLine noLine h))
+  unfolding opened lotsBytes
+  no-lines = zeros-are _ lineWidth 256 (λ k h. ap (λ l. lineBytes l) (getD-replicate 256 k noLine noLine h))
 
   pub opened-written : {s s₁ s₂ s₃ s₄ : List ℕ} → s ≡ replicate stateLength 0 → s₁ ≡ sets s 0 (take 9 (headBytes (opened t)))
       → s₂ ≡ each (lanePart (opened t)) productsFrom productWidth 8 s₁ → s₃ ≡ each (seatPart (opened t)) biddersFrom bidderWidth 32 s₂

@@ -7,13 +7,16 @@ ghost use lib.Seq.{sets};
 ghost use Rattle.rules.specs.declared.Auction.{Auction};
 ghost use Rattle.rules.specs.Parts.{tranchesAt, laneAt, seatAt, noRow, withPhase, withRound, withPrices, withMarks, unmarked, withLimits, withFree, withRecords};
 ghost use Rattle.rules.specs.Calls.{opened};
-ghost use Rattle.rules.specs.Layout.{stateLength, productWidth, bidderWidth, rowWidth, lineWidth, productsFrom, biddersFrom, rowsFrom, byte1, bytes2, bytes3, headBytes, laneBytes, seatBytes, rowBytes, lineBytes, stored, loaded};
+ghost use Rattle.rules.specs.Layout.{stateLength, productWidth, bidderWidth, rowWidth, lotWidth, lotsWidth, recordWidth, lineWidth, productsFrom, biddersFrom, rowsFrom, byte1, bytes2, bytes3, headBytes, laneBytes, seatBytes, rowBytes, lotBytes, lotsBytes, recordBytes, lineBytes, stored, loaded};
 ghost use Rattle.book.specs.Lent.{Long};
 ghost use Rattle.table.specs.Rows.{placesIn};
 ghost use Rattle.storing.specs.Written.{Writes, withFiled, withSlot, withoutLines, amountAt, recordsIn, each};
 use rules::Decrements;
 use rules::Line;
+use rules::Lot;
+use rules::Lots;
 use rules::Quote;
+use rules::Record;
 use rules::Setup;
 use rules::Tranches;
 
@@ -59,14 +62,40 @@ fn three(s: &mut [u8], k: usize, x: u32)
     s[k + 2] = (x % 256) as u8;
 }
 
+fn lot(s: &mut [u8], k: usize, l: Lot)
+    requires { ⌜ k + lotWidth ≤ length (now s) ⌝ }
+    ensures { λ _. ⌜ now (s .exit) ≡ sets (now (s .entry)) k (lotBytes l) ⌝ }
+{
+    one(s, k, l.count.0);
+    three(s, k + 1, l.exit);
+}
+
+fn lots(s: &mut [u8], k: usize, l: Lots)
+    requires { ⌜ k + lotsWidth ≤ length (now s) ⌝ }
+    ensures { λ _. ⌜ now (s .exit) ≡ sets (now (s .entry)) k (lotsBytes l) ⌝ }
+{
+    lot(s, k, l.one);
+    lot(s, k + layout::LOT, l.two);
+    lot(s, k + 2 * layout::LOT, l.three);
+    lot(s, k + 3 * layout::LOT, l.four);
+}
+
+fn record(s: &mut [u8], k: usize, r: Record)
+    requires { ⌜ k + recordWidth ≤ length (now s) ⌝ }
+    ensures { λ _. ⌜ now (s .exit) ≡ sets (now (s .entry)) k (recordBytes r) ⌝ }
+{
+    one(s, k, r.going.0);
+    one(s, k + 1, r.denied.0);
+    lots(s, k + 2, r.retained);
+}
+
 fn line(s: &mut [u8], k: usize, l: Line)
     requires { ⌜ k + lineWidth ≤ length (now s) ⌝ }
     ensures { λ _. ⌜ now (s .exit) ≡ sets (now (s .entry)) k (lineBytes l) ⌝ }
 {
     one(s, k, l.tranches.0);
-    one(s, k + 1, l.withdrawn.count.0);
-    three(s, k + 2, l.withdrawn.exit);
-    byte(s, k + 5, l.priority);
+    lots(s, k + 1, l.withdrawn);
+    byte(s, k + 1 + layout::LOTS, l.priority);
 }
 
 // ---- The head
@@ -201,11 +230,7 @@ pub fn records(s: &mut [u8], ps: &[[u32; table::WIDTH]; 256])
     let mut k: usize = 0;
     while k < 256 {
         let r = table::record(ps, k);
-        let from = k * layout::RECORD + layout::RECORDS;
-        one(s, from, r.going.0);
-        one(s, from + 1, r.denied.0);
-        one(s, from + 2, r.retained.count.0);
-        three(s, from + 3, r.retained.exit);
+        record(s, k * layout::RECORD + layout::RECORDS, r);
         k += 1;
     }
 }

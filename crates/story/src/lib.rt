@@ -3,7 +3,10 @@
 // round's own; on any other product nothing is kept anew, and what is gone was deemed bid or outbid.
 ghost use Prim.Native.Nat.{_<_};
 use layout::STATE;
+use rules::Lot;
+use rules::Lots;
 use rules::Record;
+use rules::Tranches;
 
 // Whether a state's counts are those that its sections have room for, as in every state that stands.
 pub fn is_counted(s: &[u8; STATE]) -> bool {
@@ -59,9 +62,9 @@ fn less(a: u32, b: u32) -> u32 {
 pub struct Moves {
     // Bid, by card or default.
     pub bid: u32,
-    // Withdrawals retained, and their exit price.
-    pub retained: u32,
-    pub exit: u32,
+    // Withdrawn, by card or default, and retained of that, lot by lot; nothing where the product did not tick.
+    pub withdrawn: Lots,
+    pub retained: Lots,
     // Switches denied.
     pub denied: u32,
     // Of the increase, cancelled by denied switches.
@@ -70,8 +73,9 @@ pub struct Moves {
     pub deemed: u32,
     // Denied switches outbid, which are free eligibility again.
     pub freed: u32,
-    // Retained withdrawals outbid.
-    pub gone: u32,
+    // Withdrawals that were retained before, and outbid of that, lot by lot; nothing where the product ticked.
+    pub stood: Lots,
+    pub gone: Lots,
 }
 
 // What was bid: the card's tranches; "the default bid is 0 on each ticked product .. and b = g elsewhere".
@@ -85,16 +89,49 @@ fn bid_of(filed: bool, carded: u32, ticked: bool, going: u32) -> u32 {
     going
 }
 
-fn on_ticked(bid: u32, after: Record) -> Moves {
+// What was withdrawn on a product that ticked: the card's lots; "The default bid is one lot at q."
+fn withdrawn_on(s: &[u8; STATE], b: usize, p: usize) -> Lots
+    requires { ⌜ (b < 32) × (p < 8) ⌝ }
+{
+    let k = b * 8 + p;
+    if book::has_filed(s, b) {
+        return book::line(s, k).withdrawn;
+    }
+    Lots::single(book::record(s, k).going, book::before(s, p).amount())
+}
+
+fn on_ticked(bid: u32, withdrawn: Lots, after: Record) -> Moves {
+    let retained = after.retained;
     Moves {
         bid,
-        retained: after.retained.count.0 as u32,
-        exit: after.retained.exit,
+        withdrawn,
+        retained,
         denied: after.denied.0 as u32,
         cancelled: less(bid, after.going.0 as u32),
         deemed: 0,
         freed: 0,
-        gone: 0,
+        stood: Lots::none(),
+        gone: Lots::none(),
+    }
+}
+
+// What is gone of a lot, at its price.
+fn gone_of(before: Lot, after: Lot) -> Lot {
+    if before.count.0 <= after.count.0 {
+        return Lot::none();
+    }
+    Lot {
+        count: Tranches(before.count.0 - after.count.0),
+        exit: before.exit,
+    }
+}
+
+fn all_gone(before: Lots, after: Lots) -> Lots {
+    Lots {
+        one: gone_of(before.one, after.one),
+        two: gone_of(before.two, after.two),
+        three: gone_of(before.three, after.three),
+        four: gone_of(before.four, after.four),
     }
 }
 
@@ -109,10 +146,12 @@ fn deemed_of(before: Record, after: Record) -> u32 {
 fn on_other(bid: u32, before: Record, after: Record) -> Moves {
     let deemed = deemed_of(before, after);
     let left = less(before.denied.0 as u32, after.denied.0 as u32);
+    let stood = before.retained;
+    let stands = after.retained;
     Moves {
         bid,
-        retained: 0,
-        exit: 0,
+        withdrawn: Lots::none(),
+        retained: Lots::none(),
         denied: 0,
         cancelled: less(
             std::num::wrapping_add_u32(bid, deemed),
@@ -120,16 +159,15 @@ fn on_other(bid: u32, before: Record, after: Record) -> Moves {
         ),
         deemed,
         freed: less(left, deemed),
-        gone: less(
-            before.retained.count.0 as u32,
-            after.retained.count.0 as u32,
-        ),
+        stood,
+        gone: all_gone(stood, stands),
     }
 }
 
 pub fn moves_of(before: &[u8; STATE], after: &[u8; STATE], b: usize, p: usize) -> Moves
     requires { ⌜ (b < 32) × (p < 8) ⌝ }
 {
+    let withdrawn = withdrawn_on(before, b, p);
     let k = b * 8 + p;
     let was = book::record(before, k);
     let is = book::record(after, k);
@@ -142,7 +180,7 @@ pub fn moves_of(before: &[u8; STATE], after: &[u8; STATE], b: usize, p: usize) -
         was.going.0 as u32,
     );
     if ticked {
-        return on_ticked(bid, is);
+        return on_ticked(bid, withdrawn, is);
     }
     on_other(bid, was, is)
 }

@@ -4,16 +4,19 @@ use mathlib.Core.Bool.{Bool, true, false, _&&_}
 use mathlib.Core.List.{List}
 use Prim.Native.Nat.{ℕ, zero, suc, _+_, _*_, _≤_, _<_}
 use native.Mathlib.Omega.{arith}
-use borrow.Author.Tests.{eqb-true, eqb-false}
+use borrow.Author.Tests.{eqb-true, eqb-false, ne-eqb}
 use lib.ListN.{getD, set, length, length-set}
 use lib.Seq.{getD-set-same, getD-set-other}
 use lib.Dec.{eqb}
 use Rattle.rules.specs.declared.Pick.{Pick}
 use Rattle.rules.specs.declared.Pick.the-variants.{At, Nobody}
+use Rattle.rules.specs.declared.Lots.{Lots}
 use Rattle.rules.specs.declared.Place.{Place}
 use Rattle.rules.specs.Count.{pickIf, better, firstUpTo, never, sumUpTo}
+use Rattle.rules.specs.Lots.{lotAt}
 use Rattle.rules.specs.Accept.{placeAt, column, heldOf}
 use Rattle.rules.proofs.Sums.{best-found, first-stays}
+use Rattle.rules.proofs.LotLaws.{Most}
 use Rattle.table.specs.Room.{Fits, Room}
 
 -- ---- the first that passes a test
@@ -63,6 +66,17 @@ module _ (ps : List Place) (R : Room ps) where
 
   pub column-small : (n q : ℕ) → n ≤ 32 → column heldOf ps q n ≤ 3840000
   column-small n q l = let r = held-small n q in omega arith
+
+-- ---- the exit price at a place of lots is within the bits of a price
+pub exit-at : (q : ℕ) (l : Lots) → Most q l → (i : ℕ) → lotAt l i .exit ≤ q
+exit-at q l m zero = m .one
+exit-at q l m (suc zero) = m .two
+exit-at q l m (suc (suc zero)) = m .three
+exit-at q l m (suc (suc (suc i))) =
+    let a = ne-eqb (suc (suc (suc i))) 0 (λ e. omega arith) in
+    let b = ne-eqb (suc (suc (suc i))) 1 (λ e. omega arith) in
+    let c = ne-eqb (suc (suc (suc i))) 2 (λ e. omega arith) in
+    rw (a, b, c) (m .four)
 
 -- ---- one place more of an array is filled
 module _ {A : Type 0} (P : ℕ → A → Type 0) (d : A) (all : List A) (k : ℕ) (v : A) (long : k < length all) (h : P k v) where

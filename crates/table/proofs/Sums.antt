@@ -18,7 +18,7 @@ use Rattle.table.proofs.Rows.{read-at}
 pub record SumsTo (f : Place → ℕ) (sums : List ℕ) (ps : List Place) (k : ℕ) : Type 0 where
   pub long : length sums ≡ 8
   pub each : (q : ℕ) → q < 8 → getD sums q 0 ≡ column f ps q ((k + 7 - q) / 8)
-  pub small : (q : ℕ) → q < 8 → getD sums q 0 ≤ 200000 * k
+  pub small : (q : ℕ) → q < 8 → getD sums q 0 ≤ 400000 * k
 
 pub sums-none : (f : Place → ℕ) (ps : List Place) → SumsTo f (replicate 8 0) ps 0
 sums-none f ps = record {
@@ -28,12 +28,12 @@ sums-none f ps = record {
 }
 
 module _ (f : Place → ℕ) (sums : List ℕ) (ps : List Place) where
-  module _ (k x : ℕ) (e : x ≡ f (placeAt ps k)) (m : x ≤ 200000) (S : SumsTo f sums ps k) where
+  module _ (k x : ℕ) (e : x ≡ f (placeAt ps k)) (m : x ≤ 400000) (S : SumsTo f sums ps k) where
     abbrev more : List ℕ
     more = set sums (k % 8) (getD sums (k % 8) 0 + x)
 
     each-by : (q : ℕ) → q < 8 → (t : Bool) → eqb q (k % 8) ≡ t
-        → (getD more q 0 ≡ column f ps q ((k + 1 + 7 - q) / 8)) × (getD more q 0 ≤ 200000 * (k + 1))
+        → (getD more q 0 ≡ column f ps q ((k + 1 + 7 - q) / 8)) × (getD more q 0 ≤ 400000 * (k + 1))
     each-by q l true h =
         let z = eqb-true q (k % 8) h in
         let i : k % 8 < length sums = omega (arith, S .long) in
@@ -64,10 +64,10 @@ module _ (f : Place → ℕ) (sums : List ℕ) (ps : List Place) where
     each = λ q l. let u : (k + 7 - q) / 8 ≡ n = omega arith in S .each q l ∙ ap (column f ps q) u;
   }
 
--- a place of a table holds at most three times what 16 bits hold
-place-most : (rows : List (List ℕ)) (k : ℕ) → heldOf (placeAt (placesIn rows) k) ≤ 196605
+-- a place of a table holds at most six times what 16 bits hold
+place-most : (rows : List (List ℕ)) (k : ℕ) → heldOf (placeAt (placesIn rows) k) ≤ 393210
 place-most rows k = rw (sym (read-at rows k)) (omega arith)
 
-pub held-most : (rows : List (List ℕ)) (q n : ℕ) → column heldOf (placesIn rows) q n ≤ 196605 * n
+pub held-most : (rows : List (List ℕ)) (q n : ℕ) → column heldOf (placesIn rows) q n ≤ 393210 * n
 held-most rows q zero = omega arith
 held-most rows q (suc n) = omega (arith, held-most rows q n, place-most rows (n * 8 + q))

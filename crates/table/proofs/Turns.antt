@@ -1,5 +1,5 @@
 -- The lowest turn is that of the best of the first kind, or where there is none that of the best of the second. Assumes nothing.
-use mathlib.Core.Path.{_≡_, refl, sym, _∙_, ap}
+use mathlib.Core.Path.{_≡_, refl, sym, _∙_, ap, subst}
 use mathlib.Core.Bool.{Bool, true, false, _&&_, cond}
 use Prim.Native.Nat.{ℕ, zero, suc, _≤_, _<_}
 use native.Mathlib.Omega.{arith}
@@ -17,6 +17,22 @@ pub soonest-ext : (f g : ℕ → ℕ) (n : ℕ) → ((i : ℕ) → i < n → f i
 soonest-ext f g zero h = refl
 soonest-ext f g (suc n) h =
     ap (λ s. sooner s n (f n)) (soonest-ext f g n (λ i l. h i (omega arith))) ∙ ap (sooner (soonest g n) n) (h n (omega arith))
+
+-- the lowest turn is that of the bidder found
+module _ (turn : ℕ → ℕ) where
+  abbrev Found : ℕ → Next → Type 0
+  Found n s = (s .turn ≡ 4294967297 → ⊥) → (s .at < n) × (s .turn ≡ turn (s .at))
+
+  found-next : (n : ℕ) (s : Next) → Found n s → (t : Bool) → Found (suc n) (cond t (next n (turn n)) s)
+  found-next n s f true d = (omega arith, refl)
+  found-next n s f false d = (omega (arith, f d .0), f d .1)
+
+  found : (n : ℕ) → Found n (soonest turn n)
+  found zero = λ d. absurd (d refl)
+  found (suc n) = found-next n (soonest turn n) (found n) (ltb (turn n) (soonest turn n .turn))
+
+  pub soonest-at : (n : ℕ) (s : Next) → s ≡ soonest turn n → (s .turn ≡ 4294967297 → ⊥) → (s .at < n) × (s .turn ≡ turn (s .at))
+  soonest-at n s e = subst (Found n) (sym e) (found n)
 
 -- two numbers of the two kinds, with a border between them
 pub record Apart (border x y : ℕ) : Type 0 where

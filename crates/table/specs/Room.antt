@@ -36,4 +36,4 @@ pub record Sums (f : Place → ℕ) (sums : List ℕ) (ps : List Place) (n : ℕ
 -- what is held of each product, in numbers that the signed standing takes
 pub record Held (held : List ℕ) (ps : List Place) (n : ℕ) : Type 0 where
   pub sums : Sums heldOf held ps n
-  pub small : (q : ℕ) → q < 8 → getD held q 0 ≤ 10000000
+  pub small : (q : ℕ) → q < 8 → getD held q 0 ≤ 20000000

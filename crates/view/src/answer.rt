@@ -1,6 +1,8 @@
 // The answers of `report`, `result` and `read`.
 ghost use Prim.Native.Nat.{_<_};
 use crate::bidding::put_read;
+use crate::lots::put_exits;
+use crate::lots::put_lots;
 use crate::price::put_price;
 use crate::price::put_price_end;
 use crate::price::put_unit;
@@ -79,26 +81,21 @@ fn put_holding(
 ) -> usize {
     let price = going.price;
     let amount = price.amount();
-    let numbers = [
-        p as u64,
-        amount as u64,
-        r.going.0 as u64,
-        r.denied.0 as u64,
-        r.retained.count.0 as u64,
-        r.retained.exit as u64,
-    ];
+    let numbers = [p as u64, amount as u64, r.going.0 as u64, r.denied.0 as u64];
+    let retained = r.retained;
     let a = put_form(
         out,
         at,
-        b"  product % price # going # denied # retained # exit #",
+        b"  product % price # going # denied # retained ",
         &numbers,
     );
-    let b = put_price_end(out, a, going.overridden);
-    let c = put(out, b, b"    ");
-    let mut to = put_price(out, c, unit, amount);
-    if 0 < r.retained.count.0 {
-        let d = put(out, to, b"; retained at ");
-        to = put_price(out, d, unit, r.retained.exit);
+    let b = put_lots(out, a, retained);
+    let c = put_price_end(out, b, going.overridden);
+    let d = put(out, c, b"    ");
+    let mut to = put_price(out, d, unit, amount);
+    if 0 < retained.total() {
+        let e = put(out, to, b"; retained at ");
+        to = put_exits(out, e, unit, retained);
     }
     put(out, to, b"\n")
 }
@@ -135,7 +132,7 @@ impl Totals {
         Totals {
             going: std::num::wrapping_add_u32(self.going, r.going.0 as u32),
             denied: std::num::wrapping_add_u32(self.denied, r.denied.0 as u32),
-            retained: std::num::wrapping_add_u32(self.retained, r.retained.count.0 as u32),
+            retained: std::num::wrapping_add_u32(self.retained, r.retained.total()),
         }
     }
 }
@@ -351,7 +348,7 @@ fn put_lines(out: &mut [u8; ANSWER], at: usize, lines: [Line; 8], products: usiz
     put(out, to, b"\n")
 }
 
-// `ok B R`, then ` T W X P` for each product, and the same in words; nothing where it is refused.
+// `ok B R`, then ` T LOTS P` for each product, and the same in words; nothing where it is refused.
 pub fn bid(out: &mut [u8; ANSWER], got: CardRead, products: usize) -> usize {
     let card = got.card;
     match card {

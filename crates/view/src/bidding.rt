@@ -1,22 +1,22 @@
 // A bid in words: what was taken of a card, beside what the bidder had.
 ghost use Prim.Native.Nat.{_<_};
-use crate::price::put_amount;
+use crate::lots::put_parts;
+use crate::lots::put_told;
 use crate::put_form;
 use layout::STATE;
 use rules::Line;
-use rules::Lot;
+use rules::Lots;
 use rules::Record;
 use text::ANSWER;
 use text::put;
 use text::put_named;
 
-fn put_withdrawn(out: &mut [u8; ANSWER], at: usize, unit: u8, lot: Lot) -> usize {
-    if lot.count.0 == 0 {
+fn put_withdrawn(out: &mut [u8; ANSWER], at: usize, unit: u8, l: Lots) -> usize {
+    if l.total() == 0 {
         return at;
     }
-    let numbers = [lot.count.0 as u64];
-    let a = put_form(out, at, b", # withdrawn at ", &numbers);
-    put_amount(out, a, unit, lot.exit)
+    let a = put(out, at, b", ");
+    put_told(out, a, unit, l, l, b" withdrawn at ")
 }
 
 fn put_rise(out: &mut [u8; ANSWER], at: usize, going: u16, priority: u8) -> usize {
@@ -28,10 +28,10 @@ fn put_rise(out: &mut [u8; ANSWER], at: usize, going: u16, priority: u8) -> usiz
 }
 
 // What is reduced is withdrawn, and switched where it is not.
-fn put_fall(out: &mut [u8; ANSWER], at: usize, unit: u8, going: u16, bid: u16, lot: Lot) -> usize {
+fn put_fall(out: &mut [u8; ANSWER], at: usize, unit: u8, going: u16, bid: u16, l: Lots) -> usize {
     let a = put_named(out, at, b", down from ", going as u64);
-    let b = put_withdrawn(out, a, unit, lot);
-    let stays = bid as u64 + lot.count.0 as u64;
+    let b = put_withdrawn(out, a, unit, l);
+    let stays = bid as u64 + l.total() as u64;
     if going as u64 <= stays {
         return b;
     }
@@ -42,12 +42,12 @@ fn put_fall(out: &mut [u8; ANSWER], at: usize, unit: u8, going: u16, bid: u16, l
 fn put_change(out: &mut [u8; ANSWER], at: usize, unit: u8, r: Record, l: Line) -> usize {
     let g = r.going.0;
     let b = l.tranches.0;
-    let lot = l.withdrawn;
+    let withdrawn = l.withdrawn;
     if g < b {
         return put_rise(out, at, g, l.priority);
     }
     if b < g {
-        return put_fall(out, at, unit, g, b, lot);
+        return put_fall(out, at, unit, g, b, withdrawn);
     }
     if g == 0 {
         return at;
@@ -150,12 +150,13 @@ fn put_priority(out: &mut [u8; ANSWER], at: usize, priority: u8) -> usize {
 fn put_alone(out: &mut [u8; ANSWER], at: usize, p: usize, l: Line) -> usize {
     let numbers = [p as u64, l.tranches.0 as u64];
     let mut to = put_form(out, at, b"  product #: # bid", &numbers);
-    if 0 < l.withdrawn.count.0 {
-        let lot = [l.withdrawn.count.0 as u64, l.withdrawn.exit as u64];
-        to = put_form(out, to, b", # withdrawn at #", &lot);
+    let withdrawn = l.withdrawn;
+    if 0 < withdrawn.total() {
+        let a = put(out, to, b", ");
+        to = put_parts(out, a, withdrawn, withdrawn, b" withdrawn at ");
     }
-    let a = put_priority(out, to, l.priority);
-    put(out, a, b"\n")
+    let b = put_priority(out, to, l.priority);
+    put(out, b, b"\n")
 }
 
 // The lines of a card that was read, for so many products.

@@ -3,6 +3,7 @@
 mod answer;
 mod bidding;
 mod form;
+mod lots;
 mod price;
 mod refusal;
 mod round;
@@ -17,6 +18,7 @@ pub use form::BIDDER;
 pub use form::PRODUCT;
 pub use form::put_form;
 use form::put_line;
+pub use lots::put_lots;
 pub use price::put_amount;
 pub use price::put_points;
 pub use price::put_price;

@@ -7,20 +7,32 @@ fn digit(n: u32) -> u8 {
     b'0' + (n % 10) as u8
 }
 
-// `N.NNN cents per kWh` for thousandths of a cent per kWh, `$N.NN per MW-day` for cents per MW-day.
-pub fn put_price(out: &mut [u8; ANSWER], at: usize, unit: u8, amount: u32) -> usize {
+// `N.NNN` for thousandths of a cent per kWh, `$N.NN` for cents per MW-day.
+pub fn put_figure(out: &mut [u8; ANSWER], at: usize, unit: u8, amount: u32) -> usize {
     if unit == 0 {
         let a = put_named(out, at, b"", (amount / 1000) as u64);
         let digits = [digit(amount / 100), digit(amount / 10), digit(amount)];
         let b = put(out, a, b".");
-        let c = put(out, b, &digits);
-        return put(out, c, b" cents per kWh");
+        return put(out, b, &digits);
     }
     let a = put_named(out, at, b"$", (amount / 100) as u64);
     let digits = [digit(amount / 10), digit(amount)];
     let b = put(out, a, b".");
-    let c = put(out, b, &digits);
-    put(out, c, b" per MW-day")
+    put(out, b, &digits)
+}
+
+// What stands after a figure, or after several.
+pub fn put_per(out: &mut [u8; ANSWER], at: usize, unit: u8) -> usize {
+    if unit == 0 {
+        return put(out, at, b" cents per kWh");
+    }
+    put(out, at, b" per MW-day")
+}
+
+// `N.NNN cents per kWh`, `$N.NN per MW-day`.
+pub fn put_price(out: &mut [u8; ANSWER], at: usize, unit: u8, amount: u32) -> usize {
+    let a = put_figure(out, at, unit, amount);
+    put_per(out, a, unit)
 }
 
 // `N = PRICE`

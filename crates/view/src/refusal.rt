@@ -19,7 +19,7 @@ refused 8 some b + d + r above the product cap\n\
 refused 9 a reduction on a product that didn't tick\n\
 refused 10 sum of b above sum of g + f\n\
 refused 11 withdrawn above R on a product, or total not w\n\
-refused 12 withdrawn > 0 and exit not in p < x <= q; or withdrawn = 0 and exit not 0\n\
+refused 12 withdrawn > 0 and exit not in p < x <= q; or withdrawn = 0 and exit not 0; or lots out of order\n\
 refused 13 s > 0 and increased products not numbered 1 to k once each, others 0; or s = 0 and a priority not 0\n\
 refused 14 draw order wrong\n\
 refused 15 a setting outside the limits\n\

@@ -1,5 +1,7 @@
 // What an opening, a calculation, a cutback or an undo left, in words.
 ghost use Prim.Native.Nat.{_<_};
+use crate::lots::put_parts;
+use crate::lots::put_told;
 use crate::price::put_amount;
 use crate::price::put_points;
 use crate::price::put_price_end;
@@ -7,6 +9,7 @@ use crate::price::put_unit;
 use crate::put_form;
 use layout::STATE;
 use rules::Chosen;
+use rules::Lots;
 use rules::Phase;
 use story::Moves;
 use text::ANSWER;
@@ -254,6 +257,31 @@ fn put_move_at(
     put(out, c, b"\n")
 }
 
+// The same of lots, each at its price, and whether it is the whole of the lot or a part.
+fn put_lots_moved(
+    out: &mut [u8; ANSWER],
+    at: usize,
+    b: usize,
+    p: usize,
+    unit: u8,
+    moved: Lots,
+    of: Lots,
+    text: &[u8],
+) -> usize {
+    if moved.total() == 0 {
+        return at;
+    }
+    let numbers = [b as u64, p as u64];
+    let a = put_form(out, at, b"  bidder & on product %: ", &numbers);
+    // An answer has such a line for every bidder and product: the price stands in words where it is one.
+    let c = if moved.first() == moved.last() {
+        put_told(out, a, unit, moved, of, text)
+    } else {
+        put_parts(out, a, moved, of, text)
+    };
+    put(out, c, b"\n")
+}
+
 // "the price q before its latest fall" is that of the state after the round; what is deemed bid is so at the round's own price.
 fn put_moves(
     out: &mut [u8; ANSWER],
@@ -269,12 +297,25 @@ fn put_moves(
     let unit = book::unit(before);
     let going = book::price(before, p).amount();
     let last = book::before(after, p).amount();
-    let mut to = put_move_at(out, at, b, p, m.retained, b" retained at ", unit, m.exit);
+    let withdrawn = m.withdrawn;
+    let retained = m.retained;
+    let stood = m.stood;
+    let gone = m.gone;
+    let mut to = put_lots_moved(out, at, b, p, unit, retained, withdrawn, b" retained at ");
     to = put_move_at(out, to, b, p, m.denied, b" denied, held at ", unit, last);
     to = put_move(out, to, b, p, m.cancelled, b" of the increase cancelled\n");
     to = put_move_at(out, to, b, p, m.deemed, b" deemed bid at ", unit, going);
     to = put_move(out, to, b, p, m.freed, b" denied outbid, free again\n");
-    put_move(out, to, b, p, m.gone, b" retained outbid, gone\n")
+    put_lots_moved(
+        out,
+        to,
+        b,
+        p,
+        unit,
+        gone,
+        stood,
+        b" retained outbid, gone, at ",
+    )
 }
 
 fn put_bidder_moves(

@@ -1,5 +1,6 @@
 // `show`: the manager's view of a state that stands, read where it lies.
 ghost use Prim.Native.Nat.{_<_};
+use crate::lots::put_lots;
 use crate::price::put_price_end;
 use crate::put_form;
 use crate::put_phase;
@@ -75,15 +76,11 @@ fn put_rows(out: &mut [u8; ANSWER], at: usize, s: &[u8; STATE]) -> usize {
     to
 }
 
-// ` G D R X`
+// ` G D LOTS`
 fn put_record(out: &mut [u8; ANSWER], at: usize, r: Record) -> usize {
-    let numbers = [
-        r.going.0 as u64,
-        r.denied.0 as u64,
-        r.retained.count.0 as u64,
-        r.retained.exit as u64,
-    ];
-    put_form(out, at, b" # # # #", &numbers)
+    let numbers = [r.going.0 as u64, r.denied.0 as u64];
+    let a = put_form(out, at, b" # # ", &numbers);
+    put_lots(out, a, r.retained)
 }
 
 // A bidder's records, and the line's end.
@@ -107,15 +104,13 @@ fn put_records(
     put(out, to, b"\n")
 }
 
-// ` T W X P`
+// ` T LOTS P`
 pub fn put_fields(out: &mut [u8; ANSWER], at: usize, l: Line) -> usize {
-    let numbers = [
-        l.tranches.0 as u64,
-        l.withdrawn.count.0 as u64,
-        l.withdrawn.exit as u64,
-        l.priority as u64,
-    ];
-    put_form(out, at, b" # # # #", &numbers)
+    let tranches = [l.tranches.0 as u64];
+    let a = put_form(out, at, b" # ", &tranches);
+    let b = put_lots(out, a, l.withdrawn);
+    let priority = [l.priority as u64];
+    put_form(out, b, b" #", &priority)
 }
 
 // The card that a bidder has filed, and the line's end.
@@ -189,7 +184,7 @@ fn put_legend(out: &mut [u8; ANSWER], at: usize) -> usize {
     put(
         out,
         at,
-        b"  records G D R X: going, denied, retained at exit X; cards T W X P: tranches, withdrawn at exit X, priority\n",
+        b"  records G D LOTS: going, denied, retained; cards T LOTS P: tranches, withdrawn, priority; LOTS: COUNT@EXIT,.. or -\n",
     )
 }
 

@@ -34,33 +34,44 @@ loop-holds c = (
   },
 )
 
-with-requires : tie.Need-with-requires Inv-loop μ-loop
-with-requires c κs = small-8 (c .before .before .before .loop .inv .1 .small) (omega arith)
+line-inside : tie.Need-array-copy-out-l Inv-loop μ-loop
+line-inside c =
+    let t = c .before .before .before .before .before in
+    let m = t .before .before .before in
+    omega (arith, t .loop-test .taken, m .products .ensures .0, m .before .before .pre .lent .counts .products)
 
-before-requires : tie.Need-before-requires Inv-loop μ-loop
-before-requires c κs =
-    let r = c .before .before .before .before .before in
-    let h = r .before .before in
-    (search needs, omega (arith, r .before .loop-test .taken, h .before .before .products .ensures .0, h .before .before .before .before .pre .lent .counts .products))
+with-requires : tie.Need-with-requires Inv-loop μ-loop
+with-requires c κs =
+    let t = c .before .before .before .before .before .before in
+    small-8 (t .before .loop .inv .1 .small) (omega (arith, t .before .loop .inv .0, t .before .before .before .products .ensures .0, t .before .before .before .before .before .pre .lent .counts .products))
+
+add-p : tie.Need-add-p Inv-loop μ-loop
+add-p c =
+    let t = c .before .before .before .before .before .before .before .before in
+    let l = t .loop-test .taken in
+    let m = t .before .before .before .products .ensures .1 in
+    search needs
+
+loop-less : tie.Need-loop-less Inv-loop μ-loop
+loop-less c =
+    let t = c .before .before .before .before .before .before .before .before in
+    omega (arith, t .loop-test .taken)
 
 loop-again : tie.Need-loop-again Inv-loop μ-loop
 loop-again c =
-    let w = c .before .before .before .before .before in
-    let r = w .before .before in
-    let h = r .before .before in
+    let l = c .before .before in
+    let f = l .before .before in
+    let k = f .before .before .before in
+    let h = k .before .before in
     let d = h .before .before .before .before in
     let v = h .loop .inv .1 in
-    let e = r .record .ensures in
-    let t =
-    d .pre .ticks (h .loop .p)
-    (omega (arith, r .before .loop-test .taken, h .before .before .products .ensures .0, d .pre .lent .counts .products)) in (
-      search needs,
+    let e = l .before .record .ensures in
+    let t = d .pre .ticks (h .loop .p) (omega (arith, k .before .loop-test .taken, h .before .before .products .ensures .0, d .pre .lent .counts .products)) in (
+      omega (arith, k .before .loop-test .taken),
       record {
-        sums = sums-more (v .sums) (rw e at (w .with .ensures .0));
-        small = w .with .ensures .1 _ (v .small);
-        kept =
-            kept-more (v .kept)
-            (rw (e, c .before .before .before .before .cap .ensures, t, c .before .before .price .ensures .1, c .before .before2 .ensures .1) at (c .with2 .ensures));
+        sums = sums-more (v .sums) (rw e at (c .before .with .ensures .0));
+        small = c .before .with .ensures .1 _ (v .small);
+        kept = kept-more (v .kept) (rw (e, k .cap .ensures, t, f .before .price .ensures .1, f .before2 .ensures .1) at (c .with2 .ensures));
       },
     )
 
@@ -72,6 +83,6 @@ returns c =
 pub tally-of-spec : {M : Type 1} → statement M
 tally-of-spec =
     tie.close
-    (tie.spec Inv-loop μ-loop (λ c κs. search needs) (λ c κs. search needs) loop-holds (λ c. search needs) (λ c. search needs)
-    (λ c κs. search needs) (λ c. search needs) (λ c. search needs) with-requires (λ c κs. search needs) (λ c. search needs)
-    (λ c κs. search needs) before-requires (λ c κs. search needs) (λ c. search needs) (λ c. search needs) loop-again returns)
+    (tie.spec Inv-loop μ-loop (λ c κs. search needs) (λ c κs. search needs) loop-holds (λ c κs. search needs) (λ c. search needs)
+    (λ c κs. search needs) (λ c κs. search needs) (λ c. search needs) (λ c. search needs) (λ c κs. search needs) (λ c. search needs)
+    line-inside with-requires (λ c κs. search needs) add-p loop-less loop-again returns)

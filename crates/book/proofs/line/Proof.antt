@@ -5,13 +5,21 @@ use Rattle.book.proofs.line.Tie as tie
 
 returns : tie.Need-returns
 returns c =
-    let tranches = c .before .before .before in
+    let tranches = c .before .before in
     let d = tranches .before .before in
-    rw (c .before .three .ensures, c .before .before .byte2 .ensures .0, tranches .byte .ensures .0)
-    (line-at (d .args .s .now) (d .args .k) (d .pre .1))
+    rw (c .before .lots .ensures, tranches .byte .ensures .0) (line-at (d .args .s .now) (d .args .k) (d .pre .1))
 
 pub line-spec : {M : Type 1} → statement M
 line-spec =
     tie.close
-    (tie.spec (λ c. search needs) (λ c. search needs) (λ c κs. search needs) (λ c. search needs) (λ c. search needs) (λ c κs. search needs)
-    (λ c. search needs) (λ c. search needs) (λ c κs. search needs) (λ c. search needs) (λ c. search needs) returns)
+    (tie.spec
+    (λ c. search needs)
+    (λ c. search needs)
+    (λ c κs. search needs)
+    (λ c. search needs)
+    (λ c. search needs)
+    (λ c κs. search needs)
+    (λ c. search needs)
+    (λ c. search needs)
+    (λ c. search needs)
+    returns)

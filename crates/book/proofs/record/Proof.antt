@@ -5,13 +5,21 @@ use Rattle.book.proofs.record.Tie as tie
 
 returns : tie.Need-returns
 returns c =
-    let going = c .before .before .before in
+    let going = c .before .before in
     let d = going .before .before in
-    rw (c .three .ensures, c .before .byte3 .ensures .0, c .before .before .byte2 .ensures .0, going .byte .ensures .0)
-    (record-at (d .args .s .now) (d .args .k) (d .pre .1))
+    rw (c .lots .ensures, c .before .byte2 .ensures .0, going .byte .ensures .0) (record-at (d .args .s .now) (d .args .k) (d .pre .1))
 
 pub record-spec : {M : Type 1} → statement M
 record-spec =
     tie.close
-    (tie.spec (λ c. search needs) (λ c. search needs) (λ c κs. search needs) (λ c. search needs) (λ c. search needs) (λ c κs. search needs)
-    (λ c. search needs) (λ c. search needs) (λ c κs. search needs) (λ c. search needs) (λ c. search needs) (λ c κs. search needs) returns)
+    (tie.spec
+    (λ c. search needs)
+    (λ c. search needs)
+    (λ c κs. search needs)
+    (λ c. search needs)
+    (λ c. search needs)
+    (λ c κs. search needs)
+    (λ c. search needs)
+    (λ c. search needs)
+    (λ c κs. search needs)
+    returns)

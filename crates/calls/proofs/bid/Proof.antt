@@ -7,6 +7,6 @@ use Rattle.calls.proofs.bid.Tie as tie
 pub bid-spec : {M : Type 1} → statement M
 bid-spec =
     tie.close
-    (tie.spec (λ c κs. search needs) (λ c. search needs) (λ c κs. search needs) (λ c. search needs) (λ c κs. search needs)
-    (λ c. search needs) (λ c κs. search needs) (λ c. inl refl) (λ c κs. search needs) (λ c. search needs) (λ c. search needs)
-    (λ c. search needs) (λ c. search needs) (λ c. inl refl) (λ c. inl refl) (λ c. inl refl))
+    (tie.spec (λ c κs. search needs) (λ c. search needs) (λ c κs. search needs) (λ c. inl refl) (λ c κs. search needs) (λ c. search needs)
+    (λ c κs. search needs) (λ c. inl refl) (λ c κs. search needs) (λ c. search needs) (λ c. search needs) (λ c. search needs)
+    (λ c. inl refl) (λ c. inl refl))

@@ -5,10 +5,10 @@ use Rattle.card.proofs.line_at.Statement.{statement}
 use Rattle.card.proofs.line_at.Tie as tie
 
 returns : tie.Need-returns
-returns c = λ i. line (c .before .before .before .value .ensures .0 i) (c .before .before .value2 .ensures .0 i) (c .before .value3 .ensures .0 i) (c .value4 .ensures .0 i)
+returns c = λ i. line (c .before .before .value .ensures .0 i) (c .before .lots-at .ensures i) (c .value2 .ensures .0 i)
 
 pub line-at-spec : {M : Type 1} → statement M
 line-at-spec =
     tie.close
     (tie.spec (λ c κs. search needs) (λ c. search needs) (λ c. search needs) (λ c κs. search needs) (λ c. search needs) (λ c. search needs)
-    (λ c κs. search needs) (λ c. search needs) (λ c κs. search needs) (λ c. search needs) returns)
+    (λ c. search needs) (λ c κs. search needs) (λ c. search needs) returns)

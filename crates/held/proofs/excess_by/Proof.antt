@@ -12,7 +12,7 @@ use Rattle.held.proofs.excess_by.Statement.{statement}
 use Rattle.held.proofs.excess_by.Tie as tie
 
 abbrev Inv-loop : tie.InvT-loop
-Inv-loop s held m over₀ p₀ over p = (p ≤ m) × ((over ≤ 6291360 * p) × (over ≡ sumUpTo (λ p. aboveZero (standingOf (loaded s) p)) p))
+Inv-loop s held m over₀ p₀ over p = (p ≤ m) × ((over ≤ 12582720 * p) × (over ≡ sumUpTo (λ p. aboveZero (standingOf (loaded s) p)) p))
 
 abbrev μ-loop : tie.MeasureT-loop
 μ-loop s held m over₀ p₀ over p = m - p

@@ -10,7 +10,7 @@ use Rattle.held.proofs.held.Statement.{statement}
 use Rattle.held.proofs.held.Tie as tie
 
 abbrev Inv-loop : tie.InvT-loop
-Inv-loop s p n sum₀ b₀ sum b = (b ≤ n) × ((sum ≤ 196605 * b) × (sum ≡ held (loaded s .records) b p))
+Inv-loop s p n sum₀ b₀ sum b = (b ≤ n) × ((sum ≤ 393210 * b) × (sum ≡ held (loaded s .records) b p))
 
 abbrev μ-loop : tie.MeasureT-loop
 μ-loop s p n sum₀ b₀ sum b = n - b

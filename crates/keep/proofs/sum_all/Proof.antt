@@ -14,7 +14,7 @@ use Rattle.keep.proofs.sum_all.Tie as tie
 abbrev Inv-loop : tie.InvT-loop
 Inv-loop ps held₀ bidders n left₀ k₀ held left k =
     (k ≤ bidders * 8) × (SumsTo heldOf held (placesIn ps) k
-    × ((left ≡ sumUpTo (λ j. leftOf (placeAt (placesIn ps) j)) k) × (left ≤ 131070 * k)))
+    × ((left ≡ sumUpTo (λ j. leftOf (placeAt (placesIn ps) j)) k) × (left ≤ 327675 * k)))
 
 abbrev μ-loop : tie.MeasureT-loop
 μ-loop ps held₀ bidders n left₀ k₀ held left k = bidders * 8 - k

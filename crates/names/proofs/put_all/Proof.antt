@@ -4,10 +4,10 @@ use Rattle.names.proofs.put_all.Statement.{statement}
 use Rattle.names.proofs.put_all.Tie as tie
 
 abbrev Inv-loop : tie.InvT-loop
-Inv-loop shown₀ out n names to₀ from₀ shown to from = from ≤ n
+Inv-loop shown₀ out start n names to₀ from₀ shown to from = from ≤ n
 
 abbrev μ-loop : tie.MeasureT-loop
-μ-loop shown₀ out n names to₀ from₀ shown to from = n - from
+μ-loop shown₀ out start n names to₀ from₀ shown to from = n - from
 
 pub put-all-spec : {M : Type 1} → statement M
 put-all-spec =

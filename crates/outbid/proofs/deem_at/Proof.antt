@@ -3,7 +3,7 @@ use native.Mathlib.Omega.{arith}
 use borrow.Author.Needs.{needs}
 use lib.ListN.{set}
 use lib.Seq.{set-getD}
-use Rattle.rules.specs.Accept.{nowhere, deem}
+use Rattle.rules.specs.Accept.{nowhere}
 use Rattle.table.specs.Rows.{placesIn}
 use Rattle.outbid.proofs.deem_at.Statement.{statement}
 use Rattle.outbid.proofs.deem_at.Tie as tie

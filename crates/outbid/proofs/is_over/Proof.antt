@@ -8,7 +8,7 @@ use Rattle.outbid.proofs.is_over.Tie as tie
 returns : tie.Need-returns
 returns c =
     let s = c .before .before in
-    let k : s .args .target ≤ 10000000 = omega arith in
+    let k : s .args .target ≤ 20000000 = omega arith in
     rw (c .is-above .ensures, c .before .standing-of .ensures, less-back _ _ (s .pre) k)
 
 pub is-over-spec : {M : Type 1} → statement M

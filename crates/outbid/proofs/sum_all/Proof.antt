@@ -15,7 +15,7 @@ use Rattle.outbid.proofs.sum_all.Tie as tie
 abbrev Inv-loop : tie.InvT-loop
 Inv-loop ps held₀ kept₀ bidders n all₀ k₀ held kept all k =
     (k ≤ bidders * 8) × (SumsTo heldOf held (placesIn ps) k × (SumsTo keptOf kept (placesIn ps) k
-    × ((all ≡ sumUpTo (λ j. keptOf (placeAt (placesIn ps) j)) k) × (all ≤ 131070 * k))))
+    × ((all ≡ sumUpTo (λ j. keptOf (placeAt (placesIn ps) j)) k) × (all ≤ 327675 * k))))
 
 abbrev μ-loop : tie.MeasureT-loop
 μ-loop ps held₀ kept₀ bidders n all₀ k₀ held kept all k = bidders * 8 - k

@@ -27,6 +27,19 @@ abbrev μ-loop : tie.MeasureT-loop
 loop-holds : tie.Need-loop-holds Inv-loop μ-loop
 loop-holds c = (omega arith, (rows-long _ 256 (c .before .pre .places), λ j l. absurd (let z : ⊥ = omega arith in z)))
 
+add-k : tie.Need-add-k Inv-loop μ-loop
+add-k c =
+    let bid = c .before .before .before in
+    let own = bid .before .before .before .before .before in
+    let l = own .before .loop-test .taken in
+    search needs
+
+loop-less : tie.Need-loop-less Inv-loop μ-loop
+loop-less c =
+    let bid = c .before .before .before in
+    let own = bid .before .before .before .before .before in
+    omega (arith, own .before .loop-test .taken)
+
 loop-again : tie.Need-loop-again Inv-loop μ-loop
 loop-again c =
     let bid = c .before .before .before in
@@ -56,5 +69,5 @@ pub accept-all-spec : {M : Type 1} → statement M
 accept-all-spec =
     tie.close
     (tie.spec Inv-loop μ-loop loop-holds (λ c κs. search needs) (λ c κs. search needs) (λ c κs. search needs) (λ c. search needs)
-    (λ c κs. search needs) (λ c κs. search needs) (λ c κs. search needs) (λ c κs. search needs) (λ c. search needs) (λ c. search needs)
+    (λ c κs. search needs) (λ c κs. search needs) (λ c κs. search needs) (λ c κs. search needs) add-k loop-less
     loop-again returns)

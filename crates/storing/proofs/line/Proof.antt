@@ -1,6 +1,7 @@
 -- `storing::line` meets its contract: the fields are one run. Assumes nothing.
+use denote.Ref.{now}
 use mathlib.Core.Path.{_∙_}
-use native.Mathlib.Numerals.{towards-suc}
+use Rattle.storing.proofs.Runs.{line-run}
 use borrow.Author.Needs.{needs}
 use Rattle.storing.proofs.line.Statement.{statement}
 use Rattle.storing.proofs.line.Tie as tie
@@ -10,12 +11,18 @@ returns c =
     let c₁ = c .before .before in
     let c₂ = c₁ .before .before .before .before in
     let c₃ = c₂ .before .before .before .before in
-    let c₄ = c₃ .before .before .before .before in
-    c₁ .byte .ensures
-    ∙ rw (c₂ .three .ensures, c₃ .one2 .ensures, c₄ .one .ensures) (simp towards-suc)
+    let a = c₃ .before .before .before .args in
+    c₁ .byte .ensures ∙ rw (c₂ .lots .ensures, c₃ .one .ensures) (line-run (now (a .s)) (a .k) (a .l))
 
 pub line-spec : {M : Type 1} → statement M
 line-spec =
     tie.close
-    (tie.spec (λ c κs. search needs) (λ c. search needs) (λ c κs. search needs) (λ c. search needs) (λ c κs. search needs)
-    (λ c. search needs) (λ c κs. search needs) (λ c. search needs) returns)
+    (tie.spec
+    (λ c κs. search needs)
+    (λ c. search needs)
+    (λ c κs. search needs)
+    (λ c. search needs)
+    (λ c. search needs)
+    (λ c κs. search needs)
+    (λ c. search needs)
+    returns)

@@ -4,7 +4,7 @@ use Prim.Native.Nat.{_-_}
 use native.Mathlib.Omega.{arith}
 use lib.ListN.{getD}
 use Rattle.rules.specs.Card.{noLine}
-use Rattle.rules.specs.Layout.{lineBytes}
+use Rattle.rules.specs.Layout.{lineBytes, lineWidth}
 use Rattle.storing.proofs.Each.{Passed, none-passed, next-passed, all-passed}
 use Rattle.storing.proofs.Sections.{slot-written}
 use borrow.Author.Needs.{needs}
@@ -12,7 +12,7 @@ use Rattle.storing.proofs.slot.Statement.{statement}
 use Rattle.storing.proofs.slot.Tie as tie
 
 abbrev Inv-loop : tie.InvT-loop
-Inv-loop s₀ b lines from p₀ s p = Passed (λ k. lineBytes (getD lines k noLine)) from 6 8 p s₀ s
+Inv-loop s₀ b lines from p₀ s p = Passed (λ k. lineBytes (getD lines k noLine)) from lineWidth 8 p s₀ s
 
 abbrev μ-loop : tie.MeasureT-loop
 μ-loop s₀ b lines from p₀ s p = 8 - p

@@ -13,7 +13,7 @@ use Rattle.legal.proofs.holdings.bidder_stands.Statement.{statement}
 use Rattle.legal.proofs.holdings.bidder_stands.Tie as tie
 
 abbrev Inv-loop : tie.InvT-loop
-Inv-loop s b f m sum₀ p₀ sum p = (p ≤ m) × ((sum ≤ 196605 * p) × (sum ≡ sumUpTo (λ p. heldIn (recordOf (loaded s) b p)) p))
+Inv-loop s b f m sum₀ p₀ sum p = (p ≤ m) × ((sum ≤ 393210 * p) × (sum ≡ sumUpTo (λ p. heldIn (recordOf (loaded s) b p)) p))
 
 abbrev μ-loop : tie.MeasureT-loop
 μ-loop s b f m sum₀ p₀ sum p = m - p

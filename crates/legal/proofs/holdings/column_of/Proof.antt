@@ -45,10 +45,11 @@ loop2-holds c =
 loop2-again : tie.Need-loop2-again Inv-loop μ-loop Inv-loop2 μ-loop2
 loop2-again c =
     let v = c .before .before .before in
-    let g = v .before .before .before .before .before .before .before .before .before in
+    let n = v .before .before .before .before .before .before .before in
+    let g = n .before .before in
     let w = v .loop2 .inv .1 in (
       one-passed (v .loop2 .inv .0) (c .before .before .loop2-test .taken)
-          (c .is-zero .ensures ∙ stands-past (loaded (g .args .s .now)) (g .args .p) (v .loop2 .b) (g .pre .1) (omega arith) (c .before .record2 .ensures)),
+          (c .is-zero .ensures ∙ stands-past (loaded (g .args .s .now)) (g .args .p) (v .loop2 .b) (g .pre .1) (omega (arith, n .bidders .ensures .0)) (c .before .record2 .ensures)),
       omega arith,
     )
 

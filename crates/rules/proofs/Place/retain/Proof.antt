@@ -3,7 +3,7 @@ use Rattle.rules.proofs.Place.retain.Statement.{statement}
 use Rattle.rules.proofs.Place.retain.Tie as tie
 
 returns : tie.Need-returns
-returns c = rw (c .before .retain .ensures)
+returns c = cc
 
 pub retain-spec : {M : Type 1} → statement M
-retain-spec = tie.close (tie.spec (λ c. search needs) (λ c κs. search needs) returns)
+retain-spec = tie.close (tie.spec (λ c κs. search needs) (λ c κs. search needs) (λ c κs. search needs) (λ c κs. search needs) returns)

@@ -1,0 +1,15 @@
+use Prim.Native.Nat.{_≤_, _-_}
+use borrow.Author.Needs.{needs}
+use Rattle.view.proofs.lots.put_exits.Statement.{statement}
+use Rattle.view.proofs.lots.put_exits.Tie as tie
+
+abbrev Inv-loop : tie.InvT-loop
+Inv-loop out₀ at unit l to₀ i₀ t9 out to i = i ≤ 4
+
+abbrev μ-loop : tie.MeasureT-loop
+μ-loop out₀ at unit l to₀ i₀ t9 out to i = 4 - i
+
+pub put-exits-spec : {M : Type 1} → statement M
+put-exits-spec =
+    tie.close
+    (tie.spec Inv-loop μ-loop (λ c. search needs) (λ c κs. search needs) (λ c. search needs) (λ c κs. search needs) (λ c κs. search needs) (λ c. search needs) (λ c. search needs) (λ c. search needs) (λ c κs. search needs) (λ c. search needs))
