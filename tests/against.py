@@ -752,7 +752,7 @@ def differ(lines, answers, got):
     at = 0
     said = got.decode(errors='surrogateescape').split('\n')
     for line, want in zip(lines, answers):
-        first, helps = at, re.match(r'\s*(help|\?)', line)
+        first, helps = at, re.match(r'(\s|\\\n)*(help|\?)', line)
         for wanted in want:
             if said[at:at + 1] != [wanted]:
                 return line, want, said[first:first + len(want) + 1]
