@@ -8,7 +8,7 @@ use lib.Dec.{eqb, leb, ltb}
 use Rattle.rules.specs.declared.Setup.{Setup}
 use Rattle.rules.specs.declared.Auction.{Auction}
 use Rattle.rules.specs.Settings.{setup, withinLimits, itemWithin, bidderWithin, rowWithin, leastDecrement, targetOf, capOf, startOf, percentOf}
-use Rattle.rules.specs.Held.{heldIn, recordAt, held, ticked, excess}
+use Rattle.rules.specs.Held.{recordAt, held, ticked, excess}
 use Rattle.rules.specs.Bid.{recordOf, priceAt, beforeAt, markAt, hasFiled}
 use Rattle.rules.specs.Legal.{implies, keptOn, isOpen, mayHaveMark, markStands, productStands, recordZero, recordWithin, recordStands, bidderStands, slotStands, openStands, stands}
 use Rattle.rules.proofs.Sums.{and-left, and-right}

@@ -7,7 +7,7 @@ ghost use Rattle.rules.specs.Allowed.{limits, allows};
 ghost use Rattle.rules.specs.Answers.{phaseOf};
 ghost use Rattle.rules.specs.Lots.{noLot, noLots, countOf, oneLot, lotAt, put, total, firstUsed, lastUsed, lowest, highest, leads, follows, exitFits, exitsFit, lotZero, lotsZero, fewer, takeFirst, retainAt, outbidLot, outbidLast};
 ghost use Rattle.rules.specs.Card.{noLine, lineZero};
-ghost use Rattle.rules.specs.Held.{nothing, goingIn, deniedIn, retainedIn, exitIn, heldIn, keptIn, retained, denied, cancelled, deemed, switchOutbid, withdrawalOutbid, setTo};
+ghost use Rattle.rules.specs.Held.{nothing, goingIn, deniedIn, retainedIn, heldIn, keptIn, retained, denied, cancelled, deemed, switchOutbid, withdrawalOutbid, setTo};
 ghost use Rattle.rules.specs.Legal.{recordZero};
 ghost use Rattle.rules.specs.Accept.{leavingOf, movingOf, riseOf, retain, deny, cancel, deem, outbidSwitch, outbidWithdrawal};
 ghost use Rattle.rules.specs.Price.{fallen, priceFallen, isGiven, overrideLimits, overrideFits, decrementBy};
