@@ -1,6 +1,7 @@
 /* Plain C of the calls count and calculate, this one without overrides, on the same bytes (docs/LAYOUT.md): load them, judge that the
-   state stands, calculate, store them. For counting executed instructions against the proved code.
-   ./plain LETTER N <STATE: k calculates the state N times, c counts it N times, a calculates it and writes its bytes. */
+   state stands, calculate, store them; and of a card's reading and writing. For counting executed instructions against the proved code.
+   ./plain LETTER N <STATE: k calculates the state N times, c counts it N times, a calculates it and writes its bytes; d reads the largest
+   card N times, e writes it N times. */
 #include <stdint.h>
 #include <stdio.h>
 #include <stdlib.h>
@@ -448,12 +449,96 @@ static struct answer calculate(uint8_t *state, size_t length, const uint8_t *dra
     return done;
 }
 
+/* "Bits packed most significant first": a card's fields, in whole bytes. */
+enum { CARD = 114, HEAD = 5 + 12, LINE = 8 + LOTS * (8 + 17) + 3 };
+
+struct bid { uint8_t refused, bidder; uint16_t round; struct line line[PRODUCTS]; };
+
+static size_t card_length(size_t products) { return (HEAD + LINE * products + 7) / 8; }
+
+static uint32_t take(const uint8_t *card, size_t *at, size_t width) {
+    size_t end = *at + width, i = *at / 8;
+    uint32_t bytes = 0;
+    for (; 8 * i < end; i++) bytes = bytes << 8 | card[i];
+    *at = end;
+    return bytes >> (8 * i - end) & ((1u << width) - 1);
+}
+
+static void put(uint8_t *room, size_t *at, size_t width, uint32_t value) {
+    size_t end = *at + width, i = (end + 7) / 8;
+    for (value <<= 8 * i - end; 8 * i > *at; value >>= 8) room[--i] |= (uint8_t)value;
+    *at = end;
+}
+
+static struct bid read_card(const uint8_t *card, size_t length, size_t products) {
+    struct bid bid = {0};
+    size_t at = 0;
+    if (products < 1 || products > PRODUCTS) return (struct bid){.refused = 29};
+    if (length != card_length(products)) return (struct bid){.refused = 4};
+    bid.bidder = (uint8_t)take(card, &at, 5);
+    bid.round = (uint16_t)take(card, &at, 12);
+    for (struct line *l = bid.line; l < bid.line + products; l++) {
+        l->tranches = (uint8_t)take(card, &at, 8);
+        for (int k = 0; k < LOTS; k++) {
+            l->withdrawn[k].count = (uint8_t)take(card, &at, 8);
+            l->withdrawn[k].exit = take(card, &at, 17);
+        }
+        l->priority = (uint8_t)take(card, &at, 3);
+    }
+    return take(card, &at, 8 * length - at) ? (struct bid){.refused = 5} : bid;
+}
+
+static int write_card(uint8_t *room, size_t length, size_t products, uint8_t bidder, uint16_t round, const struct line *lines) {
+    size_t at = 0;
+    if (products < 1 || products > PRODUCTS) return 29;
+    if (length != card_length(products)) return 4;
+    if (bidder > 31 || round > LAST) return 30;
+    for (const struct line *l = lines; l < lines + PRODUCTS; l++) {
+        int used = l < lines + products;
+        if (l->priority > (used ? 7 : 0) || (!used && l->tranches)) return 30;
+        for (int k = 0; k < LOTS; k++)
+            if (l->withdrawn[k].exit > (used ? 131071u : 0u) || (!used && l->withdrawn[k].count)) return 30;
+    }
+    memset(room, 0, length);
+    put(room, &at, 5, bidder);
+    put(room, &at, 12, round);
+    for (const struct line *l = lines; l < lines + products; l++) {
+        put(room, &at, 8, l->tranches);
+        for (int k = 0; k < LOTS; k++) {
+            put(room, &at, 8, l->withdrawn[k].count);
+            put(room, &at, 17, l->withdrawn[k].exit);
+        }
+        put(room, &at, 3, l->priority);
+    }
+    return 0;
+}
+
+/* The largest card, with every bit of its fields set, is read or written so many times; the numbers are not the compiler's to know. */
+static int cards(char letter, int times) {
+    volatile uint8_t length = CARD, products = PRODUCTS;
+    uint8_t card[CARD];
+    struct bid bid = {0};
+    memset(card, 255, CARD);
+    card[CARD - 1] = 128;
+    if (letter == 'd') {
+        for (int i = times; i > 0; i--) bid = read_card(card, length, products);
+        if (bid.refused) printf("refused %d\n", bid.refused);
+        else printf("bidder %d, round %d, product 7 priority %d\n", bid.bidder, bid.round, bid.line[7].priority);
+    } else {
+        bid = read_card(card, length, products);
+        for (int i = times; i > 0; i--) bid.refused = (uint8_t)write_card(card, length, products, bid.bidder, bid.round, bid.line);
+        printf("the last byte is %d\n", card[CARD - 1]);
+    }
+    return 0;
+}
+
 int main(int argc, char **argv) {
     static uint8_t start[STATE], work[STATE];
     uint8_t draw[BIDDERS];
     struct answer done = {0};
     if (argc != 3) return 2;
     char letter = argv[1][0];
+    if (letter == 'd' || letter == 'e') return cards(letter, atoi(argv[2]));
     size_t length = fread(start, 1, STATE, stdin);
     for (int i = 0; i < BIDDERS; i++) draw[i] = (uint8_t)i;
     for (int i = atoi(argv[2]); i > 0; i--) {

@@ -2,35 +2,50 @@
 // four lots, each a count of 8 bits and a price of 17", "switching priority 3. Zero bits fill the last byte."
 ghost use mathlib.Core.Path.{_≡_};
 ghost use mathlib.Core.Bool.{cond};
-ghost use Prim.Native.Nat.{_+_, _*_, _-_, _≤_, _<_};
-ghost use lib.ListN.{length};
-ghost use lib.Dec.{ltb};
+ghost use Prim.Native.Nat.{_+_, _*_, _-_, _^_, _≤_, _<_};
+ghost use lib.ListN.{length, replicate};
+ghost use lib.Dec.{ltb, eqb};
+ghost use Rattle.rules.specs.declared.Card.the-variants.{Bid, Refused};
 ghost use Rattle.rules.specs.Count.{allUpTo};
 ghost use Rattle.rules.specs.Allowed.{limits};
-ghost use Rattle.rules.specs.Lots.{lotZero, lotsZero};
-ghost use Rattle.rules.specs.Card.{lotBits, lineBits, lineBit, cardLength, lotFits, lotsFit, lineFits, lineZero, lotFrom, lotsFrom, lineAt, readLines, readRefused, readCard, putLot, putLots, putLine, putLines, writeCard};
-ghost use Rattle.card.specs.Parts.{lineWritable};
+ghost use Rattle.rules.specs.Lots.{lot, lots, lotZero, lotsZero};
+ghost use Rattle.rules.specs.Bits.{fieldAt};
+ghost use Rattle.rules.specs.Card.{line, noLine, lotBits, lineBits, lineBit, cardLength, lotFits, lotsFit, lineFits, lineZero, lotFrom, lineAt, readLines, filled, readRefused, readCard, putLot, putLots, putLine, putLines, writeCard};
+ghost use Rattle.card.specs.Parts.{valueOf, Ahead, on, lineWritable};
+use bits::Reader;
 use bits::put_field;
-use bits::value;
 use rules::Answer;
 use rules::Card;
 use rules::CardRead;
+use rules::Field;
 use rules::Limits;
 use rules::Line;
 use rules::Lot;
 use rules::Lots;
 use rules::Tranches;
 
-// ---- places
+// ---- the fields' bits
 
-// "bidder 5, round 12": where the line of the first product begins.
-const LINES: usize = 17;
+// "bidder 5, round 12; then for each product in rank: tranches 8", "up to four lots, each a count of 8 bits and a price of 17",
+// "switching priority 3"
+const BIDDER: usize = 5;
 
-// "up to four lots, each a count of 8 bits and a price of 17"
-const LOT: usize = 8 + 17;
+const ROUND: usize = 12;
 
-// "tranches 8", the lots, "switching priority 3"
-const LINE: usize = 8 + 4 * LOT + 3;
+const TRANCHES: usize = 8;
+
+const COUNT: usize = 8;
+
+const PRICE: usize = 17;
+
+const PRIORITY: usize = 3;
+
+// Where the line of the first product begins, how many bits a lot takes, and a line.
+const LINES: usize = BIDDER + ROUND;
+
+const LOT: usize = COUNT + PRICE;
+
+const LINE: usize = TRANCHES + 4 * LOT + PRIORITY;
 
 // How many bytes a card has: "Zero bits fill the last byte."
 pub fn length_for(products: usize) -> usize
@@ -50,66 +65,122 @@ pub fn filling_for(products: usize) -> usize
 
 // ---- reading
 
-fn lot_at(card: &[u8], at: usize) -> Lot
-    requires { ⌜ (at + lotBits ≤ 8 * length (now card)) × (length (now card) ≤ 114) ⌝ }
-    ensures { λ r. ⌜ r ≡ lotFrom (now (card .entry)) at ⌝ }
+// What a field's answer holds: of a field past the card nothing.
+fn value_of(field: Field) -> u32
+    ensures { λ r. ⌜ r ≡ valueOf field ⌝ }
 {
-    let count = value(card, at, 8) as u16;
-    let exit = value(card, at + 8, 17);
+    let Field::Value(value) = field else {
+        return 0;
+    };
+    value
+}
+
+fn lot_of(count: Field, exit: Field) -> Lot
+    requires { ⌜ valueOf count < 2 ^ 8 ⌝ }
+    ensures { λ r. ⌜ r ≡ lot (valueOf count) (valueOf exit) ⌝ }
+{
     Lot {
-        count: Tranches(count),
-        exit,
+        count: Tranches(value_of(count) as u16),
+        exit: value_of(exit),
     }
 }
 
-fn lots_at(card: &[u8], at: usize) -> Lots
-    requires { ⌜ (at + 4 * lotBits ≤ 8 * length (now card)) × (length (now card) ≤ 114) ⌝ }
-    ensures { λ r. ⌜ r ≡ lotsFrom (now (card .entry)) at ⌝ }
+fn line_of(tranches: Field, one: Lot, two: Lot, three: Lot, four: Lot, priority: Field) -> Line
+    requires { ⌜ (valueOf tranches < 2 ^ 8) × (valueOf priority < 2 ^ 3) ⌝ }
+    ensures { λ r. ⌜ r ≡ line (valueOf tranches) (lots one two three four) (valueOf priority) ⌝ }
 {
-    Lots {
-        one: lot_at(card, at),
-        two: lot_at(card, at + LOT),
-        three: lot_at(card, at + 2 * LOT),
-        four: lot_at(card, at + 3 * LOT),
-    }
-}
-
-fn line_at(card: &[u8], at: usize) -> Line
-    requires { ⌜ (at + lineBits ≤ 8 * length (now card)) × (length (now card) ≤ 114) ⌝ }
-    ensures { λ r. ⌜ r ≡ lineAt (now (card .entry)) at ⌝ }
-{
-    let tranches = value(card, at, 8) as u16;
-    let withdrawn = lots_at(card, at + 8);
-    let priority = value(card, at + 8 + 4 * LOT, 3) as u8;
     Line {
-        tranches: Tranches(tranches),
-        withdrawn,
-        priority,
+        tranches: Tranches(value_of(tranches) as u16),
+        withdrawn: Lots {
+            one,
+            two,
+            three,
+            four,
+        },
+        priority: value_of(priority) as u8,
     }
 }
 
-fn lines_of(card: &[u8], products: usize) -> [Line; 8]
-    requires { ⌜ (products ≤ 8) × (length (now card) ≡ cardLength products) ⌝ }
-    ensures { λ r. ⌜ r ≡ readLines (now (card .entry)) products ⌝ }
+// The reader takes a lot: "a count of 8 bits and a price of 17".
+fn take_lot<'s, 'a>(reader: &'s mut Reader<'a>) -> Lot
+    requires { ⌜ Ahead (now reader) lotBits ⌝ }
+    ensures { λ r. ⌜ (r ≡ lotFrom (now (now (reader .entry) .card)) (now (reader .entry) .at)) × (now (reader .exit) ≡ on (now (reader .entry)) lotBits) ⌝ }
+{
+    let count = reader.take(COUNT);
+    let exit = reader.take(PRICE);
+    lot_of(count, exit)
+}
+
+// The reader takes the line of a product: "tranches 8", "up to four lots", "switching priority 3".
+fn take_line<'s, 'a>(reader: &'s mut Reader<'a>) -> Line
+    requires { ⌜ Ahead (now reader) lineBits ⌝ }
+    ensures { λ r. ⌜ (r ≡ lineAt (now (now (reader .entry) .card)) (now (reader .entry) .at)) × (now (reader .exit) ≡ on (now (reader .entry)) lineBits) ⌝ }
+{
+    let tranches = reader.take(TRANCHES);
+    let one = take_lot(reader);
+    let two = take_lot(reader);
+    let three = take_lot(reader);
+    let four = take_lot(reader);
+    let priority = reader.take(PRIORITY);
+    line_of(tranches, one, two, three, four, priority)
+}
+
+fn no_lines() -> [Line; 8]
+    ensures { λ r. ⌜ r ≡ replicate 8 noLine ⌝ }
 {
     let none = Line::none();
-    let mut lines = [none; 8];
+    [none; 8]
+}
+
+// "for each product in rank": the reader takes their lines, one after the other.
+fn take_lines<'s, 'a>(reader: &'s mut Reader<'a>, products: usize) -> [Line; 8]
+    requires { ⌜ (products ≤ 8) × (now reader .at ≡ lineBit 0) × Ahead (now reader) (lineBits * products) ⌝ }
+    ensures { λ r. ⌜ (r ≡ readLines (now (now (reader .entry) .card)) products) × (now (reader .exit) ≡ on (now (reader .entry)) (lineBits * products)) ⌝ }
+{
+    let mut lines = no_lines();
     let mut i: usize = 0;
     while i < products {
-        lines[i] = line_at(card, LINES + LINE * i);
+        lines[i] = take_line(reader);
         i += 1;
     }
     lines
+}
+
+// A bid of the fields taken, unless bits that fill the card are not zero.
+fn card_of(bidder: Field, round: Field, filling: Field) -> Card
+    requires { ⌜ (valueOf bidder < 2 ^ 5) × (valueOf round < 2 ^ 12) ⌝ }
+    ensures { λ r. ⌜ r ≡ cond (eqb (valueOf filling) 0) (Bid (valueOf bidder) (valueOf round)) (Refused 5) ⌝ }
+{
+    if value_of(filling) != 0 {
+        return Card::Refused(5);
+    }
+    let bidder = value_of(bidder) as u8;
+    let round = value_of(round) as u16;
+    Card::Bid { bidder, round }
+}
+
+// A card of its length, by one reader: from the first bit on it takes "bidder 5, round 12; then for each product in rank" its
+// line, and then what fills the last byte.
+fn take_card(card: &[u8], products: usize) -> CardRead
+    requires { ⌜ (products ≤ 8) × (length (now card) ≡ cardLength products) ⌝ }
+    ensures { λ r. ⌜ (r .card ≡ cond (filled (now (card .entry)) products) (Bid (fieldAt (now (card .entry)) 0 5) (fieldAt (now (card .entry)) 5 12)) (Refused 5)) × (r .lines ≡ readLines (now (card .entry)) products) ⌝ }
+{
+    let mut reader = Reader::new(card);
+    let bidder = reader.take(BIDDER);
+    let round = reader.take(ROUND);
+    let lines = take_lines(&mut reader, products);
+    let filling = reader.take(filling_for(products));
+    let card = card_of(bidder, round, filling);
+    CardRead { card, lines }
 }
 
 // A refused read answers its number and an all-zero array.
 fn refused(number: u8) -> CardRead
     ensures { λ r. ⌜ r ≡ readRefused number ⌝ }
 {
-    let none = Line::none();
     CardRead {
         card: Card::Refused(number),
-        lines: [none; 8],
+        lines: no_lines(),
     }
 }
 
@@ -127,17 +198,12 @@ pub fn read(card: &[u8], products: usize) -> CardRead
     if card.len() != length_for(products) {
         return refused(4);
     }
-    let filling = value(card, LINES + LINE * products, filling_for(products));
-    if filling != 0 {
+    let taken = take_card(card, products);
+    let found = taken.card;
+    let Card::Bid { .. } = found else {
         return refused(5);
-    }
-    let bidder = value(card, 0, 5) as u8;
-    let round = value(card, 5, 12) as u16;
-    let lines = lines_of(card, products);
-    CardRead {
-        card: Card::Bid { bidder, round },
-        lines,
-    }
+    };
+    taken
 }
 
 // ---- writing
@@ -146,8 +212,8 @@ fn put_lot(room: &mut [u8], at: usize, lot: Lot)
     requires { ⌜ (at + lotBits ≤ 8 * length (now room)) × (length (now room) ≤ 114) ⌝ }
     ensures { λ _. ⌜ now (room .exit) ≡ putLot (now (room .entry)) at lot ⌝ }
 {
-    put_field(room, at, 8, lot.count.0 as u32);
-    put_field(room, at + 8, 17, lot.exit);
+    put_field(room, at, COUNT, lot.count.0 as u32);
+    put_field(room, at + COUNT, PRICE, lot.exit);
 }
 
 fn put_lots(room: &mut [u8], at: usize, lots: Lots)
@@ -164,9 +230,14 @@ fn put_line(room: &mut [u8], at: usize, line: Line)
     requires { ⌜ (at + lineBits ≤ 8 * length (now room)) × (length (now room) ≤ 114) ⌝ }
     ensures { λ _. ⌜ now (room .exit) ≡ putLine (now (room .entry)) at line ⌝ }
 {
-    put_field(room, at, 8, line.tranches.0 as u32);
-    put_lots(room, at + 8, line.withdrawn);
-    put_field(room, at + 8 + 4 * LOT, 3, line.priority as u32);
+    put_field(room, at, TRANCHES, line.tranches.0 as u32);
+    put_lots(room, at + TRANCHES, line.withdrawn);
+    put_field(
+        room,
+        at + TRANCHES + 4 * LOT,
+        PRIORITY,
+        line.priority as u32,
+    );
 }
 
 fn put_lines(room: &mut [u8], lines: [Line; 8], products: usize)
@@ -269,8 +340,8 @@ pub fn write(room: &mut [u8], products: usize, bidder: u8, round: u16, lines: [L
         return Answer::Refused(30);
     }
     state::clear(room);
-    put_field(room, 0, 5, bidder as u32);
-    put_field(room, 5, 12, round as u32);
+    put_field(room, 0, BIDDER, bidder as u32);
+    put_field(room, BIDDER, ROUND, round as u32);
     put_lines(room, lines, products);
     Answer::Done
 }

@@ -3,7 +3,7 @@
 // withdrawals kept the round before, or `r`, which reads the state from standard input. With four lots of each bidder on each product: `l`
 // keeps 1,600, `m` outbids 1,400 kept the round before, and `x` outbids 1,600, of a state that stands and that no auction comes to. Then
 // `k` calculates it, `c` only counts its cards, which judges the state as every call does, `b` writes its bytes, and `a` those after the
-// calculation.
+// calculation. Apart from a state, `d` reads the largest card, and `e` writes it.
 ghost use mathlib.Core.Path.{_≡_};
 ghost use lib.ListN.{length};
 use layout::FREE;
@@ -15,6 +15,7 @@ use libc::STDIN_FILENO;
 use libc::STDOUT_FILENO;
 use rules::BasisPoints;
 use rules::Calculation;
+use rules::Card;
 use rules::Chosen;
 use rules::Count;
 use rules::KwhPrice;
@@ -254,6 +255,51 @@ fn written_after(start: [u8; STATE]) {
     io::write_all(STDOUT_FILENO, &state);
 }
 
+// The largest card, with every bit of its fields set: 905 bits, and 7 that fill the last byte.
+fn largest_card() -> [u8; 114] {
+    let mut card = [255u8; 114];
+    card[113] = 128;
+    card
+}
+
+fn read_card() {
+    let read = console::read(&largest_card(), 8);
+    let card = read.card;
+    match card {
+        Card::Bid { bidder, round } => {
+            say(b"bidder ", bidder as u32);
+            say(b", round ", round as u32);
+        }
+        Card::Refused(n) => say(b"refused ", n as u32),
+    }
+    let lines = read.lines;
+    let last = lines[7];
+    say(b", product 7 priority ", last.priority as u32);
+    io::write_all(STDOUT_FILENO, b"\n");
+}
+
+fn wide(byte: u8) -> u32 {
+    byte as u32
+}
+
+fn written_card() {
+    let four = lot(255, 131071);
+    let full = Line {
+        tranches: Tranches(255),
+        withdrawn: Lots {
+            one: four,
+            two: four,
+            three: four,
+            four,
+        },
+        priority: 7,
+    };
+    let mut card = [0u8; 114];
+    console::write(&mut card, 8, 31, 4095, [full; 8]);
+    say(b"the last byte is ", wide(card[113]));
+    io::write_all(STDOUT_FILENO, b"\n");
+}
+
 fn choose(state: &mut [u8], letter: u8) {
     match letter {
         b'w' => all_withdraw(state),
@@ -275,6 +321,8 @@ fn act(state: [u8; STATE], letter: u8) {
         b'c' => counted(state),
         b'b' => written(state),
         b'a' => written_after(state),
+        b'd' => read_card(),
+        b'e' => written_card(),
         _ => {}
     }
 }
