@@ -20,7 +20,7 @@ use ghost.Atoms.{Atoms, sem}
 use contract.BorrowLft.{meet-⊑-right}
 use contract.Monad.{Fun, fact}
 use contract.Running.{givenOf, tables, tablesOf}
-use types.Kit.{Given, ‵, raw, _⊛_, ⋆, some, later, _$_, _∵_, !, qed, by, move, keep, drop, use0, use1, use2, use3, rewrite, split, join, pick, fsplit, fsplit3, fjoin, fpick, fpack, suffices, frame, await, done}
+use types.Kit.{Given, ‵, raw, _⊛_, ⋆, some, later, _$_, _∵_, !, qed, by, move, keep, drop, use1, use2, use3, rewrite, split, join, pick, fsplit, fsplit3, fjoin, fpick, fpack, suffices, frame, await, done}
 use types.Part.{agg}
 use types.Run.{look, init, forget, stop, from, load, lit, addr, of-opd, and-then, no-more, assigns, land, returns, enter, alloc1, alloc0, params1, pass1, pass0, free1, free0}
 use types.SemTy.{Body}
@@ -36,7 +36,7 @@ use denote.Lend.{lends-ref, ref-back}
 use denote.Array.{Array, array-lawful}
 use denote.Signature.{plain}
 use denote.Slice.{sliceVal, ShrSlice, slice-vals, shr-slice-tells, shr-slice-lawful, shr-slice-copy}
-use denote.Steps.{only, owned, facts, peeks, heard, nothing}
+use denote.Steps.{only, owned, peeks, heard, nothing}
 use denote.Enum.Laws as EL
 use denote.Struct.Laws as LL
 use denote.Struct.Steps.{spelt}
@@ -66,6 +66,7 @@ use Rattle.rules.specs.Card.{lineBits, lineBit, cardLength, readLines, filled}
 use Rattle.bits.specs.declared.Reader.{Reader}
 use Rattle.bits.specs.Fields.{Inside, past}
 use Rattle.bits.proofs.Lending.{Mut, lent-call}
+use Rattle.bits.proofs.PlainCall.{plain-call}
 use Rattle.bits.proofs.TakeCall.{ReaderAt, TakeC, Takes, takes}
 use Rattle.bits.proofs.Reader as T
 use Rattle.bits.proofs.Reader.Laws as T′
@@ -204,9 +205,6 @@ module _ {M : Type 1} (𝓤 : URA M) (H : Heap 𝓤) (A : Atoms 𝓤) (W : Given
   abbrev FillingSays : ℕ → Type 0
   FillingSays w = (w ≡ 8 * cardLength n - lineBit n) × (w < 8)
 
-  filling-said : (w : ℕ) → ent 𝓤 (ensured 𝓤 H A filling-for.ended (filling-for.clauses 𝓤 H A at-mem run) tt (n, tt) tt w) (fact 𝓤 (FillingSays w))
-  filling-said w = exE 𝓤 _ (λ ws. snd∗ 𝓤 (sem 𝓤 H A (lasts filling-for.ended tt (n, tt) ws)) (fact 𝓤 (FillingSays w)))
-
   -- `card_of`, of the answers and their machine values
   abbrev answer : Field → Field → Field → Card
   answer a b f = cond (eqb (valueOf f) 0) (Bid (valueOf a) (valueOf b)) (Refused 5)
@@ -219,9 +217,6 @@ module _ {M : Type 1} (𝓤 : URA M) (H : Heap 𝓤) (A : Atoms 𝓤) (W : Given
     goes-card i₄ i₅ i₇ small =
         qed W [] ∵ says ! small $ nothing ! $ owned ! F.the-row (Is F.the-row) (EL.makes F.the-type F′.the-plain 𝓤 H A) f (u₇ ∷ []) i₇ $ fjoin ! $
         owned ! F.the-row (Is F.the-row) (EL.makes F.the-type F′.the-plain 𝓤 H A) b (u₅ ∷ []) i₅ $ fjoin ! $ owned ! F.the-row (Is F.the-row) (EL.makes F.the-type F′.the-plain 𝓤 H A) a (u₄ ∷ []) i₄ $ fjoin ! $ nothing ! $ frame ! $ done !
-
-    card-said : (r : Card) → ent 𝓤 (ensured 𝓤 H A card-of.ended (card-of.clauses 𝓤 H A at-mem run) tt (a, (b, (f, tt))) tt r) (fact 𝓤 (r ≡ answer a b f))
-    card-said r = exE 𝓤 _ (λ ws. snd∗ 𝓤 (sem 𝓤 H A (lasts card-of.ended tt (a, (b, (f, tt))) ws)) (fact 𝓤 (r ≡ answer a b f)))
 
     -- what the answer is of the card
     made : (w : ℕ) (r : Card) → FillingSays w → Takes (to 0) 5 a u₄ → Takes (to 5) 12 b u₅ → Takes (to (lineBit n)) w f u₇ → r ≡ answer a b f → r ≡ cond (filled s n) (Bid (fieldAt s 0 5) (fieldAt s 5 12)) (Refused 5)
@@ -294,25 +289,22 @@ module _ {M : Type 1} (𝓤 : URA M) (H : Heap 𝓤) (A : Atoms 𝓤) (W : Given
         (λ ν δ w. id⊢ 𝓤 _) (last-said l₃ 0) (λ ν δ. and-then ! (load ! (from ! (stop !)) (look ! 8 refl)) (and-then ! (load ! (from ! (stop !)) (look ! 27 refl)) (no-more !))) (λ u₆ xs t₆.
         land ! (from ! (stop !)) (init ! 21 refl (array-lawful 𝓤 H A W N.the-row (LL.lawful N.the-type N′.the-laws 𝓤 H A W) 8 .typed xs _ (t₆ .1) .0)) $
         assigns ! (addr ! (from ! (stop !))) (from ! (stop !)) (init ! 7 refl (tt, tt)) $
-        use0 W (raw (Filling 𝓤 H A at-mem run .pre to-filling)) goes-filling $ calls-at ! fm (Filling 𝓤 H A at-mem run) known-filling to-filling (and-then ! (load ! (from ! (stop !)) (look ! 29 refl)) (no-more !)) (λ z.
-        use1 W (later (some (λ (w : ℕ). (‵ ftrue ⊛ ‵ (usize .own w (z ∷ []))) ⊛ raw (ensured 𝓤 H A filling-for.ended (filling-for.clauses 𝓤 H A at-mem run) tt (n, tt) tt w)))) (id⊢ 𝓤 _) $ await ! tt $ pick ! (λ w.
-        split ! $ move ! (1 ∷ []) $ use1 W (raw (fact 𝓤 (FillingSays w))) (filling-said w) $ heard ! (FillingSays w) (λ g. split ! $ drop ! $ facts ! usize (Is usize) (shows 𝓤 H A usize) w (z ∷ []) (λ is′.
-        land ! (from ! (stop !)) (init ! 5 refl (uint-lawful 𝓤 H A W w64 .typed w _ is′ .0)) $ rewrite ! 5 (λ (y : Val). ‵ (fat fullShare (tyInt w64) l₁₄ 0 y)) (ap only (is′ .0)) refl $
-        takes 𝓤 H A W at-mem run l₃ 0 (β ∷ []) κ fullShare q γ (to (lineBit n)) w ! fm known-take (is′ .1) (λ ν δ. and-then ! (load ! (from ! (stop !)) (look ! 6 refl)) (and-then ! (load ! (from ! (stop !)) (look ! 4 refl)) (no-more !))) (λ u₇ f t₇.
+        plain-call 𝓤 H A W (Filling 𝓤 H A at-mem run) to-filling usize FillingSays (Unit {0} × Unit {0}) (lasts filling-for.ended tt (n, tt)) ! fm known-filling goes-filling (λ z. id⊢ 𝓤 _) (and-then ! (load ! (from ! (stop !)) (look ! 29 refl)) (no-more !)) (λ z w g.
+        land ! (from ! (stop !)) (init ! 5 refl (uint-lawful 𝓤 H A W w64 .typed w _ (g .1) .0)) $ rewrite ! 5 (λ (y : Val). ‵ (fat fullShare (tyInt w64) l₁₄ 0 y)) (ap only (g .1 .0)) refl $
+        takes 𝓤 H A W at-mem run l₃ 0 (β ∷ []) κ fullShare q γ (to (lineBit n)) w ! fm known-take (g .1 .1) (λ ν δ. and-then ! (load ! (from ! (stop !)) (look ! 6 refl)) (and-then ! (load ! (from ! (stop !)) (look ! 4 refl)) (no-more !))) (λ u₇ f t₇.
         land ! (from ! (stop !)) (init ! 19 refl (EL.lawful F.the-type F′.the-laws 𝓤 H A W tt .typed f _ (t₇ .1) .0)) $
-        use0 W (raw (CardOf 𝓤 H A at-mem run .pre (to-card a b f u₄ u₅ u₇))) (goes-card a b f u₄ u₅ u₇ (t₄ .1) (t₅ .1) (t₇ .1) (value-below s 0 5 a bidder-in (t₄ .0), value-below s 5 12 b round-in (t₅ .0))) $
-        calls-at ! fm (CardOf 𝓤 H A at-mem run) known-card (to-card a b f u₄ u₅ u₇) (and-then ! (load ! (from ! (stop !)) (look ! 26 refl)) (and-then ! (load ! (from ! (stop !)) (look ! 24 refl)) (and-then ! (load ! (from ! (stop !)) (look ! 20 refl)) (no-more !)))) (λ u₈.
-        use1 W (later (some (λ (d : Card). (‵ ftrue ⊛ ‵ (D.the-row .own d (u₈ ∷ []))) ⊛ raw (ensured 𝓤 H A card-of.ended (card-of.clauses 𝓤 H A at-mem run) tt (a, (b, (f, tt))) tt d)))) (id⊢ 𝓤 _) $ await ! tt $ pick ! (λ d.
-        split ! $ move ! (1 ∷ []) $ use1 W (raw (fact 𝓤 (d ≡ answer a b f))) (card-said a b f u₄ u₅ u₇ d) $ heard ! (d ≡ answer a b f) (λ e₈. split ! $ drop ! $ facts ! D.the-row (Is D.the-row) (shows 𝓤 H A D.the-row) d (u₈ ∷ []) (λ is₈.
-        land ! (from ! (stop !)) (init ! 17 refl (EL.lawful D.the-type D′.the-laws 𝓤 H A W tt .typed d _ is₈ .0)) $
-        assigns ! (agg ! (and-then ! (load ! (from ! (stop !)) (look ! 17 refl)) (and-then ! (load ! (from ! (stop !)) (look ! 21 refl)) (no-more !)))) (from ! (stop !)) (init ! 32 refl (LL.lawful E.the-type E′.the-laws 𝓤 H A W .typed (whole d xs) _ (is-whole d u₈ xs u₆ is₈ (t₆ .1)) .0)) $
+        plain-call 𝓤 H A W (CardOf 𝓤 H A at-mem run) (to-card a b f u₄ u₅ u₇) D.the-row (λ d. d ≡ answer a b f) (Unit {0} × (Unit {0} × (Unit {0} × Unit {0}))) (lasts card-of.ended tt (a, (b, (f, tt)))) ! fm known-card
+        (goes-card a b f u₄ u₅ u₇ (t₄ .1) (t₅ .1) (t₇ .1) (value-below s 0 5 a bidder-in (t₄ .0), value-below s 5 12 b round-in (t₅ .0))) (λ u₈. id⊢ 𝓤 _)
+        (and-then ! (load ! (from ! (stop !)) (look ! 26 refl)) (and-then ! (load ! (from ! (stop !)) (look ! 24 refl)) (and-then ! (load ! (from ! (stop !)) (look ! 20 refl)) (no-more !)))) (λ u₈ d e₈.
+        land ! (from ! (stop !)) (init ! 17 refl (EL.lawful D.the-type D′.the-laws 𝓤 H A W tt .typed d _ (e₈ .1) .0)) $
+        assigns ! (agg ! (and-then ! (load ! (from ! (stop !)) (look ! 17 refl)) (and-then ! (load ! (from ! (stop !)) (look ! 21 refl)) (no-more !)))) (from ! (stop !)) (init ! 32 refl (LL.lawful E.the-type E′.the-laws 𝓤 H A W .typed (whole d xs) _ (is-whole d u₈ xs u₆ (e₈ .1) (t₆ .1)) .0)) $
         -- the loan is over, and the local has its reader again
         fsplit3 ! $ drop ! $ name-done ! tt $ move ! (1 ∷ []) $ drop ! $ move ! (1 ∷ []) $ lft-end ! tt $ move ! (0 ∷ 3 ∷ 1 ∷ []) $
         use3 W (later (‵ (mem R .lies (past (to (lineBit n)) w) l₃ 0))) (ref-back 𝓤 H A W R (β ∷ []) γ (past (to (lineBit n)) w) l₃ 0) $ await ! tt $
         use1 W (‵ (fat fullShare (T′.mir erased) l₃ 0 (T′.lowered (past (to (lineBit n)) w)))) (lay 𝓤 H A W κ l₃ (past (to (lineBit n)) w)) $
         returns ! (look ! 30 refl) $ forget ! 0 refl $ forget ! 3 refl $ forget ! 5 refl $ forget ! 7 refl $ forget ! 9 refl $ forget ! 11 refl $ forget ! 13 refl $ forget ! 15 refl $ forget ! 17 refl $ forget ! 19 refl $ forget ! 21 refl $ forget ! 23 refl $ forget ! 26 refl $ forget ! 28 refl $ forget ! 30 refl $
         move ! (30 ∷ 31 ∷ []) $ free1 ! $ move ! (28 ∷ 29 ∷ []) $ free1 ! $ move ! (26 ∷ 27 ∷ []) $ free1 ! $ move ! (0 ∷ 25 ∷ []) $ free1 ! $ move ! (22 ∷ 23 ∷ []) $ free1 ! $ move ! (20 ∷ 21 ∷ []) $ free1 ! $ move ! (18 ∷ 19 ∷ []) $ free1 ! $ move ! (16 ∷ 17 ∷ []) $ free1 ! $ move ! (14 ∷ 15 ∷ []) $ free1 ! $ move ! (12 ∷ 13 ∷ []) $ free1 ! $ move ! (10 ∷ 11 ∷ []) $ free1 ! $ move ! (8 ∷ 9 ∷ []) $ free1 ! $ move ! (6 ∷ 7 ∷ []) $ free1 ! $ move ! (4 ∷ 5 ∷ []) $ free1 ! $ move ! (2 ∷ 3 ∷ []) $ free1 ! $ free0 ! $
-        by ! (exits d u₈ xs u₆ is₈ (t₆ .1) (made a b f u₄ u₅ u₇ w d g t₄ t₅ t₇ e₈) (t₆ .0)))))))))))))))))))))))))))))))))))
+        by ! (exits d u₈ xs u₆ (e₈ .1) (t₆ .1) (made a b f u₄ u₅ u₇ w d (g .0) t₄ t₅ t₇ (e₈ .0)) (t₆ .0)))))))))))))))))))))))))))))
 
 module _ {M : Type 1} (𝓤 : URA M) (H : Heap 𝓤) (A : Atoms 𝓤) (W : Given 𝓤 H A) (mem : Memory → SProp 𝓤) (run : Routine → Fun 𝓤) where
   take-card-walks : (C : Calls 𝓤 H) (Λ : Loops 𝓤 H) → FmC 𝓤 H (W .laws) C → Triple 𝓤 (C #new) (NewC 𝓤 H A mem run) → Triple 𝓤 (C #take) (TakeC 𝓤 H A mem run) → Triple 𝓤 (C #take-lines) (LinesC 𝓤 H A mem run) → Triple 𝓤 (C #filling-for) (Filling 𝓤 H A mem run) → Triple 𝓤 (C #card-of) (CardOf 𝓤 H A mem run)
