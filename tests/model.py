@@ -1299,10 +1299,11 @@ class Desk:
         fault = judged(a, bidder, lines)
         if fault:
             raise Refused(*fault)
+        again = ['  it takes the place of the card that was filed before'] if a.has_filed(bidder) else []
         a.slot[bidder] = lines
         a.filed |= 1 << bidder
         self.keep(store(a))
-        return bid_in_words(a, bidder, lines)
+        return bid_in_words(a, bidder, lines) + again
 
     def file(self, r):
         card = r.hex()
@@ -1565,7 +1566,7 @@ COMMANDS = {
 }
 
 # what there is help for beside the commands
-TOPICS = (b'round', b'example', b'lots', b'units', b'letters', b'refusals')
+TOPICS = (b'round', b'order', b'example', b'lots', b'units', b'letters', b'refusals')
 
 
 def encoded(said):

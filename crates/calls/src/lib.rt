@@ -1,5 +1,5 @@
 // The commands that change the state: each makes its call on a copy, and says which call it was.
-ghost use Prim.Native.Nat.{_≤_};
+ghost use Prim.Native.Nat.{_≤_, _<_};
 ghost use Rattle.calls.specs.Lines.{Made as Makes, openWord, fileWord, bidWord, calculateWord, cutbackWord, returnWord};
 use asked::Numbers;
 use asked::One;
@@ -270,12 +270,16 @@ fn cutback(
 fn filed(
     answer: Answer,
     first: usize,
+    again: bool,
     card: &[u8],
     work: &[u8; STATE],
     out: &mut [u8; ANSWER],
 ) -> Made {
     match answer {
-        Answer::Done => Made::Done(Act::Plain, put_filed(out, first, work, bidder_of(card))),
+        Answer::Done => {
+            let a = put_filed(out, first, work, bidder_of(card));
+            Made::Done(Act::Plain, put_again(out, a, again))
+        }
         Answer::Refused(n) => {
             let a = put_refused(out, n);
             let b = remark::of_card(out, a, n, work, card);
@@ -292,8 +296,27 @@ fn first_of(card: &[u8]) -> u8 {
 }
 
 // Whose card it is: its first five bits.
-fn bidder_of(card: &[u8]) -> usize {
+fn bidder_of(card: &[u8]) -> usize
+    ensures { λ r. ⌜ r < 32 ⌝ }
+{
     first_of(card) as usize / 8
+}
+
+// Whether its bidder has filed a card of this round before it.
+fn has_filed(work: &[u8; STATE], card: &[u8]) -> bool {
+    book::has_filed(work, bidder_of(card))
+}
+
+// "The last valid card in a round stands": only among one bidder's own cards does the order matter, and there it is told.
+fn put_again(out: &mut [u8; ANSWER], at: usize, again: bool) -> usize {
+    if again {
+        return put(
+            out,
+            at,
+            b"  it takes the place of the card that was filed before\n",
+        );
+    }
+    at
 }
 
 // `file HEX`
@@ -317,9 +340,10 @@ fn file(line: &[u8], c: Cursor, kind: Kind, work: &mut [u8; STATE], out: &mut [u
 fn file_bytes(work: &mut [u8; STATE], card: &[u8], out: &mut [u8; ANSWER]) -> Made
     ensures { λ _. ⌜ Makes fileWord (now (work .entry)) (now (work .exit)) ⌝ }
 {
+    let again = has_filed(work, card);
     let answer = console::file(work, card);
     let first = put(out, 0, b"ok\n");
-    filed(answer, first, card, work, out)
+    filed(answer, first, again, card, work, out)
 }
 
 // The first k bytes are the card; a card that has more than all of them is none.
@@ -372,9 +396,10 @@ pub fn not_written(
 fn file_written(work: &mut [u8; STATE], card: &[u8], out: &mut [u8; ANSWER]) -> Made
     ensures { λ _. ⌜ Makes bidWord (now (work .entry)) (now (work .exit)) ⌝ }
 {
+    let again = has_filed(work, card);
     let answer = console::file(work, card);
     let first = put_card(out, card);
-    filed(answer, first, card, work, out)
+    filed(answer, first, again, card, work, out)
 }
 
 // The bidder's card of the present round, written and filed.

@@ -13,11 +13,11 @@ use borrow.Author.Tests.{lt-ltb, le-ltb, ltb-true, eq-eqb, eqb-true}
 use Rattle.rules.specs.declared.Line.{Line}
 use Rattle.rules.specs.declared.CardRead.{CardRead}
 use Rattle.rules.specs.declared.Card.the-variants.{Bid, Refused}
-use Rattle.rules.specs.Bits.{bitAt, fieldAt, putField}
+use Rattle.rules.specs.Bits.{Bytes, bitAt, fieldAt, putField}
 use Rattle.rules.specs.Count.{allUpTo}
 use Rattle.rules.specs.Card.{noLine, lineBits, lineBit, cardLength, countFits, readLines, filled, readRefused, bidOf, readCard, putLines, cardOf, writable}
 use Rattle.card.specs.Parts.{lineWritable}
-use Rattle.bits.proofs.BitLaws.{Agree, field-agree, agree-field, length-put, put-out, field-before, field-put, Bytes, bits-ext, bytes-put, bytes-zero, bit-zero, field-zero}
+use Rattle.bits.proofs.BitLaws.{Agree, field-agree, agree-field, length-put, put-out, field-before, field-put, bits-ext, bytes-put, bytes-zero, bit-zero, field-zero}
 use Rattle.card.proofs.AnswerLaws.{counted, read-bid}
 use Rattle.card.proofs.LineLaws.{agree-line, Fits, fits, zero-line, all-at, length-putLines, bytes-putLines, lines-out, lines-put, length-read, read-past, read-at}
 use Rattle.card.proofs.EveryCard.{card-fits}

@@ -10,7 +10,7 @@ use lib.ListN.{length, getD, length-set, getD-replicate}
 use lib.Seq.{getD-set-same, getD-set-other}
 use borrow.Author.Tests.{lt-ltb, le-ltb}
 use Rattle.rules.specs.declared.Line.{Line}
-use Rattle.rules.specs.Bits.{bitAt, fieldAt, putField}
+use Rattle.rules.specs.Bits.{Bytes, bitAt, fieldAt, putField}
 use Rattle.rules.specs.Count.{allUpTo}
 use Rattle.rules.specs.Lots.{lotsZero}
 use Rattle.rules.specs.Card.{line, noLine, lotBits, lineBits, lineBit, lotsFrom, lineAt, readLines, putLots, putLine, putLines, lotsFit, lineFits, lineZero}
@@ -19,7 +19,7 @@ use Rattle.rules.proofs.Allowed.{from-zero, only-zero}
 use Rattle.rules.proofs.Tests.{told, shown}
 use Rattle.rules.proofs.LotLaws.{zero-none}
 use Rattle.card.specs.Parts.{lineWritable}
-use Rattle.bits.proofs.BitLaws.{field-small, Agree, field-agree, agree-field, agree-join, length-put, Outside, outside-part, put-out, field-before, field-put, Bytes, bytes-put}
+use Rattle.bits.proofs.BitLaws.{field-small, Agree, field-agree, agree-field, agree-join, length-put, Outside, outside-part, put-out, field-before, field-put, bytes-put}
 use Rattle.card.proofs.LotLaws.{lots-agree, agree-lots, read-lots-fit, LotsFit, lots-fit, length-putLots, bytes-putLots, lots-out, lots-put}
 
 -- ---- a line tested

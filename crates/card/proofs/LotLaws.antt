@@ -8,13 +8,13 @@ use native.Mathlib.Omega.{arith}
 use lib.ListN.{length}
 use Rattle.rules.specs.declared.Lot.{Lot}
 use Rattle.rules.specs.declared.Lots.{Lots}
-use Rattle.rules.specs.Bits.{bitAt, fieldAt, putField}
+use Rattle.rules.specs.Bits.{Bytes, bitAt, fieldAt, putField}
 use Rattle.rules.specs.Lots.{lot, lots, countOf, lotZero, lotsZero}
 use Rattle.rules.specs.Card.{lotBits, lotFrom, lotsFrom, putLot, putLots, lotFits, lotsFit}
 use Rattle.rules.specs.Settings.{between}
 use Rattle.rules.proofs.Allowed.{from-zero, only-zero}
 use Rattle.rules.proofs.Tests.{told, shown}
-use Rattle.bits.proofs.BitLaws.{field-small, Agree, field-agree, agree-field, agree-join, length-put, Outside, outside-part, put-out, field-before, field-put, Bytes, bytes-put}
+use Rattle.bits.proofs.BitLaws.{field-small, Agree, field-agree, agree-field, agree-join, length-put, Outside, outside-part, put-out, field-before, field-put, bytes-put}
 
 -- ---- tested: in use, or past the count
 

@@ -10,9 +10,10 @@ use lib.Dec.{ltb}
 use Rattle.rules.specs.declared.Tranches.{Tranches}
 use Rattle.rules.specs.Legal.{isOpen}
 use Rattle.rules.specs.Cutback.{mayCut}
+use Rattle.rules.specs.Bits.{Bytes}
 use Rattle.rules.specs.Layout.{loaded}
 use Rattle.rules.specs.Calls.{bidderNumber, cutNumber}
-use Rattle.rules.proofs.Storing.{Bytes, loaded-bits}
+use Rattle.rules.proofs.Storing.{loaded-bits}
 use Rattle.cutback.specs.Cuttable.{Cutting}
 use Rattle.numbers.proofs.StateLaws.{Stood}
 use Rattle.console.proofs.Counting.{few-filed}

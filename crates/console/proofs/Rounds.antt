@@ -9,10 +9,11 @@ use Rattle.rules.specs.declared.Chosen.{Chosen}
 use Rattle.rules.specs.declared.Calculation.the-variants.{Done, Refused}
 use Rattle.rules.specs.Round.{drawFits, overridesFit}
 use Rattle.rules.specs.Answers.{Leaves}
+use Rattle.rules.specs.Bits.{Bytes}
 use Rattle.rules.specs.Layout.{loaded}
 use Rattle.rules.specs.Legal.{isOpen}
 use Rattle.rules.specs.Calls.{roundNumber, calculateNumber, calculateCall}
-use Rattle.rules.proofs.Storing.{Bytes, loaded-bits}
+use Rattle.rules.proofs.Storing.{loaded-bits}
 use Rattle.round.specs.declared.Tally.{Tally}
 use Rattle.round.specs.Ready.{Ready, Calculates}
 use Rattle.numbers.proofs.StateLaws.{stood-by}

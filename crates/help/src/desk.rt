@@ -50,9 +50,10 @@ pub fn put_helping(out: &mut [u8; ANSWER]) -> usize {
   help COMMAND
       its form, what its words mean and in which unit, what it changes, what it may be refused for
       and what to do then, and an example
-  help round, help example, help lots, help units, help letters, help refusals
-      how a round goes; a small auction to type in; how withdrawals are typed; units of prices and
-      the like; the letters of the refusals in words; the numbers of the refusals
+  help round, help order, help example, help lots, help units, help letters, help refusals
+      how a round goes; whether it matters who filed first; a small auction to type in; how
+      withdrawals are typed; units of prices and the like; the letters of the refusals in words; the
+      numbers of the refusals
   changes
     nothing
   example, on an issued box

@@ -43,7 +43,8 @@ pub fn put_bid(out: &mut [u8; ANSWER]) -> usize {
     and not used in this round is lost.
   changes
     The box: the card is filed. A later card of the bidder in this round takes its place; a refused
-    one leaves it. ok is followed by the card in bytes. There is no undo: file another card.
+    one leaves it. ok is followed by the card in bytes. There is no undo: file another card. Before
+    or after which other bidders it is filed does not matter (help order).
 ",
     );
     let c = put_letters(out, b);
@@ -90,7 +91,8 @@ pub fn put_file(out: &mut [u8; ANSWER]) -> usize {
          to 8 products. read N HEX shows what is on it, write makes one; bid does both at once
   changes
     The box: the card is filed. A later card of the bidder in this round takes its place; a refused
-    one leaves it. There is no undo: file another card.
+    one leaves it. There is no undo: file another card. Before or after which other bidders it is
+    filed does not matter (help order).
 ",
     );
     let b = put_letters(out, a);

@@ -64,7 +64,7 @@ pub fn put_all(out: &mut [u8; ANSWER]) -> usize {
     bail on, bail off     end at the first line that is not answered ok, or go on
     quit, exit            end
     help, ?               these lines
-  also: help round, help example, help lots, help units, help letters, help refusals
+  also: help round, help order, help example, help lots, help units, help letters, help refusals
   answers: ok, done; refused, with its number and why; error, the line is no command.
   Only what is answered ok changes the box. A line that begins with # is a remark.
   help COMMAND says more
@@ -85,6 +85,9 @@ fn put_topic(out: &mut [u8; ANSWER], word: &[u8]) -> usize {
     }
     if same(word, b"round") {
         return topics::put_round(out);
+    }
+    if same(word, b"order") {
+        return topics::put_order(out);
     }
     if same(word, b"example") {
         return topics::put_example(out);

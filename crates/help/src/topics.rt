@@ -92,7 +92,7 @@ pub fn put_round(out: &mut [u8; ANSWER]) -> usize {
         b"ok
   a round
     1  bid B .., or file HEX: each bidder's card. One that is refused is told to its bidder, who may
-       send another; the last that is accepted stands.
+       send another; the last that is accepted stands. Who files first does not matter (help order).
     2  count, missing: who is still to file. filed: what is filed.
     3  Draw the order of all bidders by lot, outside the box.
     4  calculate D0 D1 ..: the round, with the bidders as drawn. Who has not filed gets a default
@@ -115,6 +115,45 @@ pub fn put_round(out: &mut [u8; ANSWER]) -> usize {
     lowest exit price of all lots first, and then switches denied, the earliest in the draw first.
     They stay to fill the target until new tranches outbid them: a denied switch is then free
     eligibility, a retained withdrawal, that of the highest exit price first, is gone.
+",
+    )
+}
+
+pub fn put_order(out: &mut [u8; ANSWER]) -> usize {
+    let a = put(
+        out,
+        0,
+        b"ok
+  order
+    Does it matter who filed first, or in which order the cards of a round are entered? No.
+  cards of different bidders
+    Any order leaves the same box, byte for byte, and each card is accepted, or refused with the
+    same number, as it would be alone. Nobody gains by filing early or loses by filing late: ties in
+    the calculation go by the draw, and by nothing else.
+  cards of one bidder
+    The last that is accepted stands, as if the earlier ones had not been filed. Only among one
+    bidder's own cards does the order matter: enter them as they came.
+  a card once more, and a card that is refused
+    The same card entered again leaves the box as it is. A refused one does so too, and is refused
+    wherever it stands among the others.
+    What is left of a round's cards is each bidder's last accepted one. The journal has every card
+    that was accepted, in the order in which they were entered.
+",
+    );
+    put(
+        out,
+        a,
+        b"  example, on an issued box
+    > open kwh 2 product 2 2 1000 bidder 2 2 row 0 100
+    ok
+    > bid 1  1 - 0
+    ok 08008080000000000000000000000000
+    > bid 0  2 - 0
+    ok 00008100000000000000000000000000
+    > bid 1  2 - 0
+    ok 08008100000000000000000000000000
+    Bidder 1 bids 2: its later card stands. Bidder 0's might as well be the first or the last of the
+    three.
 ",
     )
 }

@@ -1,10 +1,10 @@
 -- A state that is opened, or that takes a card, stands. Assumes nothing.
-use mathlib.Core.Path.{_≡_, refl, _∙_}
+use mathlib.Core.Path.{_≡_, refl, _∙_, ap}
 use mathlib.Core.Bool.{Bool, true, false, cond}
 use mathlib.Core.List.{List}
 use Prim.Native.Nat.{ℕ, zero, suc, _≤_, _<_}
 use native.Mathlib.Omega.{arith}
-use borrow.Author.Tests.{ltb-true, ltb-false}
+use borrow.Author.Tests.{eqb-true, ltb-true, ltb-false}
 use lib.ListN.{length, replicate, length-replicate, length-set}
 use lib.Seq.{getD-set-other}
 use lib.Dec.{eqb, ltb}
@@ -23,7 +23,8 @@ use Rattle.rules.proofs.Lists.{all-give, list-long}
 use Rattle.rules.proofs.Tests.{told}
 use Rattle.rules.specs.Stands.{Long, Stands}
 use Rattle.laws.proofs.Opening.{blank, opened-setup, opened-stands, opened-long}
-use Rattle.laws.proofs.Filing.{filed-stands, filed-long, bits-filed}
+use Rattle.rules.proofs.Filing.{bits-filed}
+use Rattle.laws.proofs.Filing.{filed-stands, filed-long}
 use Rattle.rules.proofs.Fitting.{standing-loads}
 
 -- ---- open
@@ -110,21 +111,22 @@ granted true x n h e = (refl, e)
 granted false x n h e = absurd (let z : ⊥ = omega arith in z)
 
 card-by : (a : Auction) (ls : List Line) (c : Card) → ((k : ℕ) → c ≡ Refused k → 0 < k) → bidNumber a c ls ≡ 0
-    → (bidderOn c < a .terms .bidders) × (judged a (bidderOn c) ls ≡ 0)
+    → (bidderOn c < a .terms .bidders) × (judged a (bidderOn c) ls ≡ 0) × (c ≡ Bid (bidderOn c) (a .round))
 card-by a ls (Bid b r) h e =
     let x = granted (ltb b (a .terms .bidders)) _ 6 (omega arith) e in
     let y = granted (eqb r (a .round)) _ 7 (omega arith) (x .1) in
-    (ltb-true _ _ (x .0), y .1)
+    (ltb-true _ _ (x .0), y .1, ap (Bid b) (eqb-true _ _ (y .0)))
 card-by a ls (Refused k) h e = absurd (let z : ⊥ = omega (arith, h k refl) in z)
 
--- what a card filed is: bids are open, and it is accepted of its bidder
+-- what a card filed is: bids are open, it is accepted of its bidder, and it is of this round
 pub file-take : (a : Auction) (s : List ℕ) → cardNumber s a ≡ 0
     → (isOpen a ≡ true) × (bidderOn (readCard s (a .terms .products) .card) < a .terms .bidders)
     × (judged a (bidderOn (readCard s (a .terms .products) .card)) (readCard s (a .terms .products) .lines) ≡ 0)
+    × (readCard s (a .terms .products) .card ≡ Bid (bidderOn (readCard s (a .terms .products) .card)) (a .round))
 file-take a s e =
     let o = granted (isOpen a) _ 3 (omega arith) e in
     let c = card-by a _ (readCard s (a .terms .products) .card) (read-number s (a .terms .products)) (o .1) in
-    (o .0, c .0, c .1)
+    (o .0, c .0, c .1, c .2)
 
 module _ (a : Auction) (S : Stands a) (L : Long a) (s : List ℕ) (e : cardNumber s a ≡ 0) where
   -- a card filed leaves the state standing

@@ -21,6 +21,7 @@ use Rattle.laws.specs.OneCall.{StandsIn, RefusedSame, FiledOnly, PriceBy
 use Rattle.rules.specs.Held.{excess}
 use Rattle.rules.specs.Round.{drawFits, overrideFor, overridesFit, afterStep2, afterStep4, atRest, onward, stops, settled, calculated}
 use Rattle.rules.specs.Cutback.{mayCut, cutBack, suggestedVolume, suggestedNumber}
+use Rattle.rules.specs.Bits.{Bytes}
 use Rattle.rules.specs.Layout.{stateLength, stored, loaded, allZero}
 use Rattle.rules.specs.Legal.{isOpen, stands}
 use Rattle.rules.specs.Card.{readCard, cardOf, writeNumber, writeCard}
@@ -30,7 +31,7 @@ use Rattle.rules.specs.Stands.{Stands}
 use Rattle.rules.proofs.Legal.{stands-take, stands-give}
 use Rattle.laws.proofs.Bids.{bids-accepted}
 use Rattle.laws.proofs.Opening.{blank}
-use Rattle.laws.proofs.Filing.{slot-filed, slot-other, bit-filed, bit-other}
+use Rattle.rules.proofs.Filing.{slot-filed, slot-other, bit-filed, bit-other}
 use Rattle.rules.proofs.Storing.{stored-long, loaded-long, loaded-bits, stored-bytes}
 use Rattle.rules.proofs.Fitting.{phase-small, standing-loads}
 use Rattle.laws.proofs.Calling.{granted, opens, opens-loads, opens-setup, read-long, file-take, files, files-loads}
@@ -64,6 +65,16 @@ not-issued s S = zero-by s (S .long) (allZero s) refl (stood s S)
 -- of a standing state a call says what the auction says
 pub of-standing : (s : List ℕ) → StandsIn s → (n : ℕ) (says : Auction → ℕ) → ofState s n says ≡ says (loaded s)
 of-standing s S n says = rw (eq-eqb (length s) stateLength (S .long), not-issued s S, S .standing)
+
+-- and where it gives no number the state stands
+pub accepted-stands : (s : List ℕ) → Bytes s → (n : ℕ) → 0 < n → (says : Auction → ℕ) → ofState s n says ≡ 0 → StandsIn s
+accepted-stands s B n h says e =
+    let l = granted (eqb (length s) stateLength) _ 1 (omega arith) e in
+    by (allZero s) (eqb-true (length s) stateLength (l .0)) (l .1)
+  where
+    by : (t : Bool) → length s ≡ stateLength → cond t n (cond (stands (loaded s)) (says (loaded s)) 2) ≡ 0 → StandsIn s
+    by true l z = absurd (let x : ⊥ = omega arith in x)
+    by false l z = record { long = l; standing = granted (stands (loaded s)) _ 2 (omega arith) z .0; bits = loaded-bits s B }
 
 -- ---- issued
 
@@ -172,7 +183,7 @@ module _ (s : List ℕ) (x : Settings) (new : openNumber s x ≡ 0) (e : length 
       let z = granted (allZero s) _ 17 (omega arith) (l .1) in
       granted (settingsFit x) _ 15 (omega arith) (z .1) .0
 
-  open-bytes : openCall s x .bytes ≡ stored (opened (setupOf x))
+  pub open-bytes : openCall s x .bytes ≡ stored (opened (setupOf x))
   unfolding openCall
   open-bytes = rw new
 
@@ -198,7 +209,7 @@ open-standing s x S =
 -- ---- file
 
 module _ (s : List ℕ) (S : StandsIn s) (c : List ℕ) where
-  file-accepts : fileNumber s c ≡ 0 → cardNumber c (loaded s) ≡ 0
+  pub file-accepts : fileNumber s c ≡ 0 → cardNumber c (loaded s) ≡ 0
   file-accepts e = sym (of-standing s S 3 (cardNumber c)) ∙ e
 
   file-loads : cardNumber c (loaded s) ≡ 0 → loaded (stored (afterCard c (loaded s))) ≡ afterCard c (loaded s)
@@ -235,6 +246,15 @@ module _ (s : List ℕ) (S : StandsIn s) (c : List ℕ) where
   pub file-stands : StandsIn (fileCall s c .bytes)
   unfolding fileCall
   file-stands = file-by (eqb (fileNumber s c) 0) refl
+
+-- what it leaves of bytes is bytes
+pub file-bytes : (s c : List ℕ) → Bytes s → Bytes (fileCall s c .bytes)
+unfolding fileCall
+file-bytes s c B = by (eqb (fileNumber s c) 0)
+  where
+    by : (t : Bool) → Bytes (cond t (stored (afterCard c (loaded s))) s)
+    by true = stored-bytes (afterCard c (loaded s))
+    by false = B
 
 -- ---- calculate
 

@@ -11,3 +11,5 @@ pub mod Useful
 pub mod Astray
 pub mod Saying
 pub mod Overridden
+pub mod Entry
+pub mod Entered

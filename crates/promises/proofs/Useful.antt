@@ -118,7 +118,7 @@ S-fits = refl
 new-by : (n : ℕ) → n ≡ stateLength → openNumber (replicate n 0) settingS ≡ 0
 new-by n e = rw (zeros n, S-fits, length-replicate {A = ℕ} n 0, eq-eqb n stateLength e)
 
-new-opens : openNumber newBox settingS ≡ 0
+pub new-opens : openNumber newBox settingS ≡ 0
 unfolding newBox
 new-opens = new-by stateLength refl
 
@@ -130,12 +130,12 @@ open-box : StandsIn openBox
 unfolding settingS
 open-box = open-stands newBox settingS new-opens refl refl
 
-open-auction : loaded openBox ≡ opened (setupOf settingS)
+pub open-auction : loaded openBox ≡ opened (setupOf settingS)
 unfolding settingS
 open-auction = open-loaded newBox settingS new-opens refl refl
 
 -- what a call answers of it
-box-says : (n : ℕ) (says : Auction → ℕ) → ofState openBox n says ≡ says (opened (setupOf settingS))
+pub box-says : (n : ℕ) (says : Auction → ℕ) → ofState openBox n says ≡ says (opened (setupOf settingS))
 box-says n says = of-standing openBox open-box n says ∙ ap says open-auction
 
 -- an opening, a card and a calculation, each accepted once and refused once

@@ -5,3 +5,4 @@ pub mod Awards
 pub mod Demands
 pub mod Marks
 pub mod Earlier
+pub mod Entry

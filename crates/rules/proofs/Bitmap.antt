@@ -1,14 +1,16 @@
 -- Laws of one bit set in a number, and of a run of elements set in a list. Assumes nothing.
-use mathlib.Core.Path.{_≡_, sym, ap, _∙_, subst}
+use mathlib.Core.Path.{_≡_, sym, ap, ap₂, _∙_, subst}
 use mathlib.Core.Logic.{_⊎_, inl, inr}
 use mathlib.Core.List.{List, _++_}
-use Prim.Native.Nat.{ℕ, _+_, _-_, _*_, _/_, _%_, _^_, _≤_, _<_}
-use native.Mathlib.Nat.{mod-lt}
+use Prim.Native.Nat.{ℕ, zero, suc, _+_, _-_, _*_, _/_, _%_, _^_, _≤_, _<_}
+use native.Mathlib.Nat.{mod-lt, mod-eq-of-lt}
+use native.Mathlib.Numerals.{one-add}
+use native.Mathlib.Decide.{decLt}
 use native.Mathlib.Omega.{arith}
 use lib.ListN.{length, getD, take, drop, length-append, List·getD-append}
 use lib.Seq.{sets, sets-eq, length-take-le, getD-append-add, getD-take, getD-drop}
 use lib.Arith.{digits-lt, digits-div, digits-mod}
-use lib.Pow.{pow-pos, pow-add, shr-lt, shr-shr, high, low, field, mod-mod-pow}
+use lib.Pow.{pow-pos, pow-add, shr-lt, shr-shr, high, low, field, mod-mod-pow, mod-pow-add}
 use Rattle.rules.specs.Bits.{setIn}
 
 -- ---- one bit of a number
@@ -39,14 +41,21 @@ high-agree n m p q h e = sym (cut n) ∙ ap (λ x. x / 2 ^ (q - (p + 1))) (sym (
     cut : (z : ℕ) → z / 2 ^ (p + 1) / 2 ^ (q - (p + 1)) ≡ z / 2 ^ q
     cut z = shr-shr z (p + 1) (q - (p + 1)) ∙ ap (λ x. z / 2 ^ x) d
 
--- the other bits are as before
-pub setIn-other : (x p q b : ℕ) → b < 2 → (p < q) ⊎ (q < p) → setIn x p b / 2 ^ q % 2 ≡ x / 2 ^ q % 2
+-- two numbers that differ, one way or the other
+pub apart : (p q : ℕ) → (q ≡ p → ⊥) → (p < q) ⊎ (q < p)
+apart p q n = elim (decLt p q) [ yes l ↦ inl l | no l ↦ inr (omega (arith, l, n)) ]
+
+other-by : (x p q b : ℕ) → b < 2 → (p < q) ⊎ (q < p) → setIn x p b / 2 ^ q % 2 ≡ x / 2 ^ q % 2
 unfolding setIn
-setIn-other x p q b hb (inl h) =
+other-by x p q b hb (inl h) =
     ap (λ y. y % 2)
     (high-agree (setIn x p b) x p q h
     (ap (λ y. y / 2) (high (x / 2 ^ p / 2 * 2 + b) p (mod-lt x (pow-pos p))) ∙ digits-div (x / 2 ^ p / 2) hb))
-setIn-other x p q b hb (inr h) = low-agree (setIn x p b) x p q h (low (x / 2 ^ p / 2 * 2 + b) p (mod-lt x (pow-pos p)))
+other-by x p q b hb (inr h) = low-agree (setIn x p b) x p q h (low (x / 2 ^ p / 2 * 2 + b) p (mod-lt x (pow-pos p)))
+
+-- the other bits are as before
+pub setIn-other : (x p q b : ℕ) → b < 2 → (q ≡ p → ⊥) → setIn x p b / 2 ^ q % 2 ≡ x / 2 ^ q % 2
+setIn-other x p q b hb n = other-by x p q b hb (apart p q n)
 
 -- a number of w bits stays one
 pub setIn-lt : (w x p b : ℕ) → x < 2 ^ w → p < w → b < 2 → setIn x p b < 2 ^ w
@@ -65,6 +74,16 @@ setIn-lt w x p b hx hp hb =
 
     whole : 2 ^ (w - 1 - p) * 2 * 2 ^ p ≡ 2 ^ w
     whole = ap (λ m. m * 2 ^ p) (sym (pow-add 2 (w - 1 - p) 1)) ∙ sym (pow-add 2 ((w - 1 - p) + 1) p) ∙ ap (λ m. 2 ^ m) e
+
+-- numbers of w bits whose bits agree are equal
+pub number-ext : (w x y : ℕ) → x < 2 ^ w → y < 2 ^ w → ((p : ℕ) → p < w → x / 2 ^ p % 2 ≡ y / 2 ^ p % 2) → x ≡ y
+number-ext w x y hx hy h = sym (mod-eq-of-lt hx) ∙ low-bits w (omega arith) ∙ mod-eq-of-lt hy
+  where
+    low-bits : (k : ℕ) → k ≤ w → x % 2 ^ k ≡ y % 2 ^ k
+    low-bits zero l = omega arith
+    low-bits (suc k) l =
+        ap (λ m. x % 2 ^ m) (sym (one-add k)) ∙ mod-pow-add x 1 k ∙ ap₂ (λ u v. u * 2 ^ k + v) (h k l) (low-bits k (omega arith))
+        ∙ sym (mod-pow-add y 1 k) ∙ ap (λ m. y % 2 ^ m) (one-add k)
 
 -- ---- a run of elements of a list
 

@@ -11,6 +11,7 @@ pub mod Signed
 pub mod Legal
 pub mod Judged
 pub mod Bitmap
+pub mod Filing
 pub mod Storing
 pub mod Priorities
 pub mod Fitting

@@ -15,8 +15,9 @@ use Rattle.rules.specs.declared.Lots.{Lots}
 use Rattle.rules.specs.declared.Line.{Line}
 use Rattle.rules.specs.declared.Record.{Record}
 use Rattle.rules.specs.declared.Auction.{Auction}
+use Rattle.rules.specs.Bits.{Bytes}
 use Rattle.rules.specs.Layout.{bytesUpTo, headBytes, laneBytes, seatBytes, rowBytes, lotsBytes, recordBytes, lineBytes, stored, read1, read2, read3, read4, laneFrom, seatFrom, rowFrom, lotRead, lotsRead, recordFrom, lineFrom, loaded, productWidth, bidderWidth, rowWidth, lotWidth, lotsWidth, recordWidth, lineWidth, productsFrom, biddersFrom, rowsFrom, recordsFrom, bidsFrom, stateLength, headWidth}
-use Rattle.rules.specs.Lots.{lot, lots, countOf}
+use Rattle.rules.specs.Lots.{countOf}
 use Rattle.rules.specs.Card.{noLine}
 use Rattle.rules.specs.Parts.{noLane, laneAt, noSeat, seatAt, noRow}
 use Rattle.rules.specs.Settings.{percentOf, decrementOf}
@@ -383,10 +384,6 @@ module _ (s : List ℕ) where
   pub line-read : (k : ℕ) → k < 256 → getD (loaded s .cards .lines) k noLine ≡ lineFrom s (k * lineWidth + bidsFrom)
   unfolding loaded
   line-read k h = list-at _ noLine 256 k h
-
--- each element is a byte
-pub record Bytes (s : List ℕ) : Type 0 where
-  pub small : (i : ℕ) → getD s i 0 < 256
 
 -- a bitmap that is loaded has 32 bits
 pub loaded-bits : (s : List ℕ) → Bytes s → loaded s .cards .filed < 4294967296

@@ -5,11 +5,12 @@ use Prim.Native.Nat.{ℕ, zero, suc, _+_, _*_, _/_, _%_, _≤_, _<_}
 use native.Mathlib.Omega.{arith}
 use lib.ListN.{length, getD, take, drop}
 use lib.Seq.{drop-cons, take-add, drop-drop, take-all}
+use Rattle.rules.specs.Bits.{Bytes}
 use Rattle.rules.specs.Layout.{bytesUpTo, byte1, bytes2, bytes3, bytes4, headBytes, laneBytes, seatBytes, rowBytes, lotBytes, lotsBytes, recordBytes, lineBytes, stored, read1, read2, read3, read4, lotRead, lotsRead, stateLength, loaded, productWidth, bidderWidth, rowWidth, lotWidth, lotsWidth, recordWidth, lineWidth, productsFrom, biddersFrom, rowsFrom, recordsFrom, bidsFrom}
 use Rattle.rules.specs.Card.{noLine}
 use Rattle.rules.specs.Parts.{laneAt, seatAt, noRow}
 use Rattle.rules.specs.Held.{recordAt}
-use Rattle.rules.proofs.Storing.{Bytes, lane-read, seat-read, row-read, record-read, line-read}
+use Rattle.rules.proofs.Storing.{lane-read, seat-read, row-read, record-read, line-read}
 use Rattle.book.proofs.Loaded.{phase-at, unit-at, products-at, bidders-at, rows-at, round-at, statewide-at, filed-at}
 
 -- bytes, most significant first, of the number that they make

@@ -4,7 +4,8 @@ use native.Mathlib.Omega.{arith}
 use lib.ListN.{getD}
 use lib.Bits.{and-mask, and-le-r}
 use borrow.Author.Needs.{needs}
-use Rattle.bits.proofs.BitLaws.{one-shl, Bytes, part-put, part-byte, part-in}
+use Rattle.rules.specs.Bits.{Bytes}
+use Rattle.bits.proofs.BitLaws.{one-shl, part-put, part-byte, part-in}
 use Rattle.bits.proofs.put_part.Statement.{statement}
 use Rattle.bits.proofs.put_part.Tie as tie
 

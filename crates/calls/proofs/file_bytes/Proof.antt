@@ -6,4 +6,4 @@ use Rattle.calls.proofs.file_bytes.Tie as tie
 pub file-bytes-spec : {M : Type 1} → statement M
 file-bytes-spec =
     tie.close
-    (tie.spec (λ c κs. search needs) (λ c. search needs) (λ c κs. search needs) (λ c κs. search needs) (λ c. search filed))
+    (tie.spec (λ c κs. search needs) (λ c κs. search needs) (λ c. search needs) (λ c κs. search needs) (λ c κs. search needs) (λ c. search filed))

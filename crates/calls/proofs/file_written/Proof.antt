@@ -6,4 +6,4 @@ use Rattle.calls.proofs.file_written.Tie as tie
 pub file-written-spec : {M : Type 1} → statement M
 file-written-spec =
     tie.close
-    (tie.spec (λ c κs. search needs) (λ c κs. search needs) (λ c κs. search needs) (λ c. search bid))
+    (tie.spec (λ c κs. search needs) (λ c κs. search needs) (λ c κs. search needs) (λ c κs. search needs) (λ c. search bid))

@@ -1,7 +1,7 @@
 -- `storing::as_stored` meets its contract: each element that is lent is a byte. Assumes nothing.
 use mathlib.Core.Path.{sym}
 use native.Mathlib.Omega.{arith}
-use Rattle.rules.proofs.Storing.{Bytes}
+use Rattle.rules.specs.Bits.{Bytes}
 use Rattle.book.proofs.Loaded.{phase-at}
 use Rattle.storing.proofs.Kept.{kept}
 use borrow.Author.Needs.{needs}
