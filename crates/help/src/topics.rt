@@ -134,8 +134,8 @@ pub fn put_order(out: &mut [u8; ANSWER]) -> usize {
     The last that is accepted stands, as if the earlier ones had not been filed. Only among one
     bidder's own cards does the order matter: enter them as they came.
   a card once more, and a card that is refused
-    The same card entered again leaves the box as it is. A refused one does so too, and is refused
-    wherever it stands among the others.
+    The card that stands, entered again, leaves the box as it is. So does a refused one, which is
+    refused wherever it stands among the others.
     What is left of a round's cards is each bidder's last accepted one. The journal has every card
     that was accepted, in the order in which they were entered.
 ",
@@ -152,6 +152,7 @@ pub fn put_order(out: &mut [u8; ANSWER]) -> usize {
     ok 00008100000000000000000000000000
     > bid 1  2 - 0
     ok 08008100000000000000000000000000
+      it takes the place of the card that was filed before
     Bidder 1 bids 2: its later card stands. Bidder 0's might as well be the first or the last of the
     three.
 ",

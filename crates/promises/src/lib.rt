@@ -1,1 +1,2 @@
-// The promises: demands 1 to 3 over runs of calls. What a run is and what had been offered stand in specs/, the theorems in proofs/.
+// The promises: demands 1 to 3 over runs of calls, and cards in any order. What a run is, what had been offered and whose card it is stand in
+// specs/, the theorems in proofs/.
