@@ -713,7 +713,7 @@ SAID = [re.compile(pattern) for pattern in [
     ': [0-9]+ of [0-9]+ retained at', 'retained at .* of [0-9]+ at', ' of [0-9]+ retained outbid, gone, at', 'gone, at [0-9]+, ',
     '; retained at [^ ]*, ',
     'error a product has tranches, lots', 'error lots are', 'error a lot is missing', 'error a lot has a count', 'error a lot has one @',
-    'error a product has at most four lots', 'error a bid in this auction has', 'it takes the place',
+    'error a product has at most four lots', 'error a bid in this auction has', 'it takes the place', 'stands already',
 ]]
 
 

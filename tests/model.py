@@ -1299,7 +1299,11 @@ class Desk:
         fault = judged(a, bidder, lines)
         if fault:
             raise Refused(*fault)
-        again = ['  it takes the place of the card that was filed before'] if a.has_filed(bidder) else []
+        again = []
+        if a.has_filed(bidder):
+            again = ['  it takes the place of the card that was filed before']
+            if [list(fields(line)) for line in a.slot[bidder]] == [list(fields(line)) for line in lines]:
+                again = ['  it is the card that stands already: nothing is changed']
         a.slot[bidder] = lines
         a.filed |= 1 << bidder
         self.keep(store(a))

@@ -270,15 +270,16 @@ fn cutback(
 fn filed(
     answer: Answer,
     first: usize,
-    again: bool,
     card: &[u8],
+    before: &[u8; STATE],
     work: &[u8; STATE],
     out: &mut [u8; ANSWER],
 ) -> Made {
     match answer {
         Answer::Done => {
-            let a = put_filed(out, first, work, bidder_of(card));
-            Made::Done(Act::Plain, put_again(out, a, again))
+            let b = bidder_of(card);
+            let a = put_filed(out, first, work, b);
+            Made::Done(Act::Plain, put_again(out, a, before, work, b))
         }
         Answer::Refused(n) => {
             let a = put_refused(out, n);
@@ -302,21 +303,32 @@ fn bidder_of(card: &[u8]) -> usize
     first_of(card) as usize / 8
 }
 
-// Whether its bidder has filed a card of this round before it.
-fn has_filed(work: &[u8; STATE], card: &[u8]) -> bool {
-    book::has_filed(work, bidder_of(card))
-}
-
-// "The last valid card in a round stands": only among one bidder's own cards does the order matter, and there it is told.
-fn put_again(out: &mut [u8; ANSWER], at: usize, again: bool) -> usize {
-    if again {
+// "The last valid card in a round stands": where bidder b had filed one before, what became of that. Only among one bidder's own cards does
+// the order matter, and so it is told here.
+fn put_again(
+    out: &mut [u8; ANSWER],
+    at: usize,
+    before: &[u8; STATE],
+    work: &[u8; STATE],
+    b: usize,
+) -> usize
+    requires { ⌜ b < 32 ⌝ }
+{
+    if !book::has_filed(before, b) {
+        return at;
+    }
+    if same(before, work) {
         return put(
             out,
             at,
-            b"  it takes the place of the card that was filed before\n",
+            b"  it is the card that stands already: nothing is changed\n",
         );
     }
-    at
+    put(
+        out,
+        at,
+        b"  it takes the place of the card that was filed before\n",
+    )
 }
 
 // `file HEX`
@@ -340,10 +352,10 @@ fn file(line: &[u8], c: Cursor, kind: Kind, work: &mut [u8; STATE], out: &mut [u
 fn file_bytes(work: &mut [u8; STATE], card: &[u8], out: &mut [u8; ANSWER]) -> Made
     ensures { λ _. ⌜ Makes fileWord (now (work .entry)) (now (work .exit)) ⌝ }
 {
-    let again = has_filed(work, card);
+    let before = copy_of(work);
     let answer = console::file(work, card);
     let first = put(out, 0, b"ok\n");
-    filed(answer, first, again, card, work, out)
+    filed(answer, first, card, &before, work, out)
 }
 
 // The first k bytes are the card; a card that has more than all of them is none.
@@ -396,10 +408,10 @@ pub fn not_written(
 fn file_written(work: &mut [u8; STATE], card: &[u8], out: &mut [u8; ANSWER]) -> Made
     ensures { λ _. ⌜ Makes bidWord (now (work .entry)) (now (work .exit)) ⌝ }
 {
-    let again = has_filed(work, card);
+    let before = copy_of(work);
     let answer = console::file(work, card);
     let first = put_card(out, card);
-    filed(answer, first, again, card, work, out)
+    filed(answer, first, card, &before, work, out)
 }
 
 // The bidder's card of the present round, written and filed.

@@ -134,10 +134,11 @@ pub fn put_order(out: &mut [u8; ANSWER]) -> usize {
     The last that is accepted stands, as if the earlier ones had not been filed. Only among one
     bidder's own cards does the order matter: enter them as they came.
   a card once more, and a card that is refused
-    The card that stands, entered again, leaves the box as it is. So does a refused one, which is
-    refused wherever it stands among the others.
-    What is left of a round's cards is each bidder's last accepted one. The journal has every card
-    that was accepted, in the order in which they were entered.
+    The card that stands, entered again, leaves the box as it is. An earlier card of the bidder,
+    entered again after its correction, takes the place of the correction: the desk says which of
+    the two it was. A refused card leaves the box as it is, and is refused wherever it stands.
+    What is left of a round's cards is each bidder's last accepted one. The journal has each card
+    that changed the box, in the order in which they were entered.
 ",
     );
     put(

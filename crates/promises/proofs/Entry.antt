@@ -144,7 +144,7 @@ module _ (s : List ℕ) (B : Bytes s) where
       by true e = let k = eqb-true (fileNumber s c) 0 e in later-bytes c c k k refl
       by false e = refused-after c c (eqb-false (fileNumber s c) 0 e)
 
-  -- and of no others: two valid cards of one bidder that leave the same state in either order are the same card
+  -- order matters for two different valid cards of one bidder: where they leave the same state in either order they are the same card
   pub order-matters : (c d : List ℕ) → Bytes c → Bytes d → EitherOrder s c d → MayExchange s c d
   order-matters c d hc hd E O =
       let alone = sym (later-stands c d O .state) ∙ E .state ∙ later-bytes d c (O .second) (O .first) (sym (O .bidder)) in
