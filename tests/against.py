@@ -111,10 +111,12 @@ def spoiled_opening(rnd):
 
 
 def mood_of(rnd, a):
-    """What most bidders are after in a round: to leave a product that ticked, to go into one where something is kept, or nothing."""
+    """What most bidders are after in a round: to leave a product that ticked, to exchange all that ticked for others, to go into one where
+    something is kept, or nothing."""
     ticked = [j for j in range(a.products) if a.ticked(j)]
     kept = [j for j in range(a.products) if a.kept(j) > 0]
     moods = [('', None)] + [('leave', j) for j in ticked] * 2 * (len(ticked) > len(kept)) + [('enter', j) for j in kept] * 3 * bool(ticked)
+    moods += [('exchange', None)] * len(ticked) * (len(ticked) > 1)
     return rnd.choice(moods) if a.round > 1 else moods[0]
 
 
@@ -133,6 +135,8 @@ def good_bid(rnd, a, i, mood=('', None)):
             b.append(rnd.randint(0, g // 2))
         elif mood[0] == 'leave' and move < .8:
             b.append(g)
+        elif mood[0] == 'exchange' and a.ticked(j):
+            b.append(0 if move < .5 else top if move < .9 else g)
         elif mood == ('enter', j) and move < .9:
             b.append(min(max(g, top), g + rnd.choice([1, 2, 3, 7, 20])))
         elif mood[0] == 'enter' and a.ticked(j) and move < .9:
@@ -315,8 +319,8 @@ def large_fields(rnd, a, i, lines):
     return bid_line(rnd, i, lines)
 
 
-def wrong_draw(rnd, m):
-    """A draw order that is mostly wrong, in one or more ways."""
+def wrong_order(rnd, m):
+    """An order of m bidders or products that is mostly wrong, in one or more ways."""
     draw = list(range(m))
     rnd.shuffle(draw)
     for _ in range(rnd.choice([1, 1, 1, 2, 3])):
@@ -331,7 +335,26 @@ def wrong_draw(rnd, m):
             draw[rnd.randrange(len(draw))] = rnd.choice([0, m - 1, m, 255])
     if rnd.random() < .1:
         draw += [rnd.choice([0, m]) for _ in range(rnd.choice([40, 41]) - len(draw))]
-    return ' '.join(['calculate'] + list(map(str, draw)))
+    return draw
+
+
+def wrong_draw(rnd, m):
+    return ' '.join(['calculate'] + list(map(str, wrong_order(rnd, m))))
+
+
+def ordering(rnd, a):
+    """What follows the overrides: in half of the cases an order of the products, mostly one that fits."""
+    if rnd.random() < .5:
+        return ''
+    order = rnd.sample(range(a.products), a.products)
+    if rnd.random() < .15:
+        order = rnd.choice([[], wrong_order(rnd, a.products), wrong_order(rnd, a.products), wrong_order(rnd, a.products)])
+    return ' '.join(['', 'order'] + list(map(str, order)))
+
+
+def calculation(rnd, a, line):
+    """A draw and what may follow it."""
+    return line + overriding(rnd, a) + ordering(rnd, a)
 
 
 def overriding(rnd, a):
@@ -651,12 +674,12 @@ def session(rnd, desk, lines, answers, states):
         rnd.shuffle(draw)
         line = 'calculate ' + ' '.join(map(str, draw))
         if rnd.random() < .05:
-            say(spoiled_text(rnd, line + overriding(rnd, a)))
+            say(spoiled_text(rnd, calculation(rnd, a, line)))
         if rnd.random() < .15:
-            say(wrong_draw(rnd, a.bidders) + overriding(rnd, a))
+            say(calculation(rnd, a, wrong_draw(rnd, a.bidders)))
         if rnd.random() < .3:
             say(new_line(rnd, a))
-        if not say(line + overriding(rnd, a))[0].startswith('ok'):
+        if not say(calculation(rnd, a, line))[0].startswith('ok'):
             say(line)
         for i in rnd.sample(range(a.bidders), min(a.bidders, 3)):
             say('report %d' % i)
@@ -690,6 +713,7 @@ REMARKS = [(number, re.compile(pattern)) for number, pattern in [
     (16, 'the auction is stopped'), (17, 'an auction is open'), (17, 'an auction is closed'), (17, 'an auction is stopped'), (17, 'byte'),
     (18, 'round 1'), (19, ', 0 basis points'), (19, ', 1001 basis points'), (19, ', 65535 basis points'), (20, 'belongs to round 2'),
     (20, 'has filed'), (20, 'target'), (20, ', cap'), (20, 'tranches in all'),
+    (23, 'is unknown'), (23, 'stands'), (23, 'is missing'), (23, r'\(.*\)'),
     (29, 'products'), (30, ': bidder'), (30, ': round'), (30, 'tranches'), (30, 'lot 1, withdrawn .* 0 to'), (30, 'lot [2-4], withdrawn'),
     (30, 'lot 1, exit'), (30, 'lot [2-4], exit'), (30, 'priority'),
     (30, '; 0 is allowed'), (31, 'the ratio is 0'), (31, 'bid; 0 to 51200'), (8, r'\(.*\)'), (14, r'\(.*\)'), (19, r'\(.*\)'),
@@ -707,7 +731,7 @@ SAID = [re.compile(pattern) for pattern in [
     'error a name is missing', 'error a name has at most', 'error a name has no brackets', 'has this name', 'error bidders are',
     'error products are [0-9]', 'error names belong', 'next .* overridden$', 'held [0-9]+ overridden$', 'retained .* overridden$',
     r'\) .* overridden$', 'does nothing: it is not above target', 'does nothing: there is no such product', 'does nothing: no price falls',
-    'error an override is', 'error products are numbered', 'error a product has one override',
+    'error an override is', 'error products are numbered', 'error a product has one override', 'error an order has',
     'retained [0-9]+@[0-9]+$', 'retained [0-9]+@[0-9]+,[0-9]+@[0-9]+$', 'retained( [0-9]+@|,[0-9]+@){1}[^,]*(,[^,]*){3}$',
     'card.* [0-9]+@[0-9]+(,[0-9]+@[0-9]+){3} ', 'withdrawn at [0-9]+(, [0-9]+ at [0-9]+){3}( =|$|, priority)',
     ': [0-9]+ of [0-9]+ retained at', 'retained at .* of [0-9]+ at', ' of [0-9]+ retained outbid, gone, at', 'gone, at [0-9]+, ',
@@ -854,7 +878,8 @@ def largest(met, alone=False):
 
 
 LOOK = ['count', 'report 0', 'report 1', 'result', 'show', 'calculate 0', 'calculate 0 1', 'calculate 1 0 2', 'return', 'file 00',
-        'calculate 0 1 override 0 1000', 'calculate 1 0 override 0 0', 'cutback 1 1', 'undo', 'undo', 'missing', 'filed', 'filed 0',
+        'calculate 0 1 override 0 1000', 'calculate 1 0 override 0 0', 'calculate 0 1 order 0', 'calculate 1 0 order 1 0',
+        'cutback 1 1', 'undo', 'undo', 'missing', 'filed', 'filed 0',
         'report all', 'names', 'name bidder 0 A', 'name product 0 B', 'open kwh 1 product 1 1 1 bidder 1 row 0 100',
         'open kwh 1 product 1 1 1 bidder 1 row 0 100']
 NAMED = [b'bidder 0 Alpha\nproduct 0 ACE\n', b'bidder 0 A  B\nbidder 1 Z\xc3\xbcrich\n', b'bidder 1 x\n']
@@ -928,7 +953,7 @@ def boxes(many, seed, states, met):
                 rnd.shuffle(draw)
                 lines[2] = 'calculate ' + ' '.join(map(str, draw))
                 if 1 <= model.load(state).products <= 8:
-                    lines[2] += overriding(rnd, model.load(state))
+                    lines[2] = calculation(rnd, model.load(state), lines[2])
                 lines += ['show', 'report 0']
             if len(state) == model.LENGTH and 1 <= model.load(state).products <= 8 and rnd.random() < .6:
                 lines[1:1] = [cutback(rnd, model.load(state)), 'show']

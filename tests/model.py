@@ -1,5 +1,5 @@
 #!/usr/bin/env python3
-"""Document 01, with requests 1 to 3 of document 02, and the desk's text, written a second time.
+"""Document 01, with requests 1 to 3 and 10 of document 02, and the desk's text, written a second time.
 
     tests/model.py [BOX] < commands > answers
 
@@ -43,6 +43,7 @@ WORDS = {
     18: "open in round 1",
     19: "an override outside 1 to 1,000",
     20: "a condition on the cutback not met",
+    23: "the product order isn't each product once",
     29: "product count not 1 to 8",
     30: "a field too large for its bits, or not 0 past the count",
     31: "a ratio of 0, or more than 51,200 tranches bid",
@@ -180,6 +181,9 @@ class Auction:
 
     def the_bidders(self):
         return 'the bidders are 0 to %d' % (self.bidders - 1)
+
+    def the_products(self):
+        return 'the products are 0 to %d' % (self.products - 1)
 
     # A price, or several, as people say them.
     def people(self, *prices):
@@ -577,8 +581,29 @@ class Steps:
                 yield i, j, kind, many
 
 
-def calculate(a, draw, overrides={}):
-    """Changes the auction; answers what its steps did. An override is a decrement in basis points, by the number of its product."""
+def by_rank(products, lacks, keep):
+    """While some ticked product is below target, the first in rank keeps one tranche."""
+    while short := [j for j in products if lacks(j) > 0]:
+        keep(short[0])
+
+
+def by_order(order):
+    """Document 02, request 10: the plain engine goes through the order again and again, keeping as many as are lacking at each visit."""
+    def engine(products, lacks, keep):
+        assert sorted(order) == list(products)
+        kept = True
+        while kept:
+            kept = False
+            for j in order:
+                for _ in range(lacks(j)):
+                    keep(j)
+                    kept = True
+    return engine
+
+
+def calculate(a, draw, overrides={}, engine=by_rank):
+    """Changes the auction; answers what its steps did. An override is a decrement in basis points, by the number of its product; the engine
+    says which product keeps a tranche next."""
     n, m = a.products, a.bidders
     products = range(n)
     steps = Steps()
@@ -594,13 +619,13 @@ def calculate(a, draw, overrides={}):
         for j in products:
             a.record[i][j].g = bids[i][j].b
 
-    # 2. While some ticked product is below target, the first in rank keeps one tranche.
+    # 2. Ticked products below target keep tranches until none is.
     held = [a.held(j) for j in products]
-    while True:
-        short = [j for j in products if ticked[j] and held[j] < a.target[j]]
-        if not short:
-            break
-        j = short[0]
+
+    def lacks(j):
+        return max(0, a.target[j] - held[j]) if ticked[j] else 0
+
+    def keep(j):
         # "Keeping takes the lowest price first across all lots"; the first of the lowest, in the draw's order
         lowest = min((x for i in draw for x in leaving[i][j]), default=None)
         if lowest is not None:
@@ -619,6 +644,7 @@ def calculate(a, draw, overrides={}):
             steps.did('denied', i, j)
             steps.did('cancelled', i, into)
         held[j] += 1
+    engine(products, lacks, keep)
 
     # 3. On a product that didn't tick, denied switches of a bidder with an increase left are deemed bid.
     for j in products:
@@ -848,12 +874,12 @@ class Reader:
         return int(self.word())
 
     def numbers_to_end(self, most):
-        return self.numbers_before(None, most)
+        return self.numbers_before((), most)
 
-    def numbers_before(self, end, most):
-        """Numbers up to the word `end` or the end of the line."""
+    def numbers_before(self, ends, most):
+        """Numbers up to one of the words `ends` or the end of the line."""
         out = []
-        while not self.at_end() and not self.is_word(end):
+        while not self.at_end() and self.words[self.next][1] not in ends:
             if len(out) == most:
                 self.done()
             out.append(self.number())
@@ -862,24 +888,34 @@ class Reader:
     def overrides(self):
         """After a draw: the word `override` and pairs of a product and basis points, if they are there; the points by product."""
         out = {}
-        if self.at_end():
+        if not self.is_word(b'override'):
             return out
         missing = 'an override is a product and its basis points; a number is missing'
         at = self.at()
         self.word()
-        if self.at_end():
+        if self.at_end() or self.is_word(b'order'):
             raise Wrong(missing, at)
-        while not self.at_end():
+        while not self.at_end() and not self.is_word(b'order'):
             at = self.at()
             j = self.any_number()
             if j >= PRODUCTS:
                 raise Wrong('products are numbered 0 to %d' % (PRODUCTS - 1), at)
             if j in out:
                 raise Wrong('a product has one override', at)
-            if self.at_end():
+            if self.at_end() or self.is_word(b'order'):
                 raise Wrong(missing, at)
             out[j] = pair(self.any_number())
         return out
+
+    def order(self):
+        """At the end of a calculation: the word `order` and all products, if they are there; None where they are not."""
+        if self.at_end():
+            return None
+        at = self.at()
+        self.word()
+        if self.at_end():
+            raise Wrong('an order has every product once; a number is missing', at)
+        return self.numbers_to_end(40)
 
     def groups_to_end(self, size, what):
         """Up to 8 groups of `size` numbers, one a product."""
@@ -1125,19 +1161,28 @@ def report_in_words(a, i):
     return out + ['  in all going %d denied %d retained %d, held %d' % (g, d, r, g + d + r)]
 
 
-def draw_fault(a, draw):
-    """What is wrong with a draw order; None where nothing is."""
+def order_fault(order, kind, count, all_of_them):
+    """What is wrong with an order of so many bidders or products; None where nothing is."""
     wrong = []
-    unknown = [i for i in draw if i >= a.bidders]
-    often = [i for i in range(a.bidders) if draw.count(i) > 1]
-    missing = [i for i in range(a.bidders) if i not in draw]
+    unknown = [i for i in order if i >= count]
+    often = [i for i in range(count) if order.count(i) > 1]
+    missing = [i for i in range(count) if i not in order]
     if unknown:
-        wrong.append('{bidder %d} is unknown' % unknown[0])
+        wrong.append('{%s %d} is unknown' % (kind, unknown[0]))
     if often:
-        wrong.append('{bidder %d} stands %d times' % (often[0], draw.count(often[0])))
+        wrong.append('{%s %d} stands %d times' % (kind, often[0], order.count(often[0])))
     if missing:
-        wrong.append('{bidder %d} is missing' % missing[0])
-    return '%s; %s' % (', '.join(wrong), a.the_bidders()) if wrong else None
+        wrong.append('{%s %d} is missing' % (kind, missing[0]))
+    return '%s; %s' % (', '.join(wrong), all_of_them) if wrong else None
+
+
+def draw_fault(a, draw):
+    return order_fault(draw, 'bidder', a.bidders, a.the_bidders())
+
+
+def products_fault(a, order):
+    """Of an order of the products, where one is given."""
+    return None if order is None else order_fault(order, 'product', a.products, a.the_products())
 
 
 # ---- The desk
@@ -1348,16 +1393,19 @@ class Desk:
         return ['ok %d %d%s' % (i, a.round, card_fields(a.slot[i][:a.products]))] + bid_in_words(a, i, a.slot[i])
 
     def calculate(self, r):
-        draw = [byte(i) for i in r.numbers_before(b'override', 40)]
+        draw = [byte(i) for i in r.numbers_before((b'override', b'order'), 40)]
         overrides = r.overrides()
+        order = r.order()
+        if order is not None:
+            order = [byte(j) for j in order]
         a = with_bids_open(self.state)
-        for number, fault in (14, draw_fault(a, draw)), (19, override_fault(overrides)):
+        for number, fault in (14, draw_fault(a, draw)), (19, override_fault(overrides)), (23, products_fault(a, order)):
             if fault:
                 raise Refused(number, fault)
         then, missing, round = list(a.p), a.still_to_file(), a.round
         bids = [a.slot[i] if a.has_filed(i) else default_bid(a, i) for i in range(a.bidders)]
         stood = [[c.lots for c in row] for row in a.record]
-        steps = calculate(a, draw, overrides)
+        steps = calculate(a, draw, overrides, by_rank if order is None else by_order(order))
         self.keep(store(a), self.state)
         kept, outbid = steps.count('retained', 'denied'), steps.count('denied outbid', 'retained outbid')
         out = ['ok kept %d outbid %d' % (kept, outbid), '  round %d calculated; default bids: %s' % (round, listed(missing) or 'none')]

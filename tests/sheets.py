@@ -172,11 +172,12 @@ class Made:
                 '  %d %s %d' % (l.b, model.as_text(l.lots), l.priority) for l in lines[:a.products]), model.store(a))
         return True
 
-    def calculate(self, draw, overrides={}):
+    def calculate(self, draw, overrides={}, order=()):
         a = self.auction()
         self.before = self.state
         told = Round(a, draw, overrides)
         given = 'calculate ' + ' '.join(map(str, draw)) + ' override' * bool(overrides) + ''.join(' %d %d' % e for e in overrides.items())
+        given += ' order' * bool(order) + ''.join(' %d' % j for j in order)
         self.line('ok kept %d outbid %d' % told.counts, given, model.store(a))
         self.rounds[told.number] = told
         if told.number == 1:
@@ -236,6 +237,11 @@ def overrides_of(rnd, a):
     return {j: rnd.choice([1, 1000, rnd.randint(1, 1000)]) for j in rnd.sample(products, many)}
 
 
+def order_of(rnd, a):
+    """In a third of the cases an order of the products: a page tells nothing of it."""
+    return rnd.sample(range(a.products), a.products) if rnd.random() < .33 else ()
+
+
 def bid_round(rnd, made, absent=.1, still=0):
     """Cards of a round: some bidders send none, and some bid as before."""
     a = made.auction()
@@ -271,7 +277,7 @@ def random_auction(rnd, path):
         if rnd.random() < .1:
             continue  # a line or two may lie between, and cards be filed again
         was = dict(made.rounds), made.cut, made.first
-        made.calculate(draw_of(rnd, a), overrides_of(rnd, a))
+        made.calculate(draw_of(rnd, a), overrides_of(rnd, a), order_of(rnd, a))
         what = rnd.random()
         if what < .12:
             made.undo()

@@ -1,14 +1,17 @@
-// `calculate D0 D1 .. override PRODUCT POINTS ..`
+// `calculate D0 D1 .. override PRODUCT POINTS .. order P0 P1 ..`
 ghost use mathlib.Core.Path.{_≡_};
 ghost use lib.ListN.{replicate};
 ghost use Rattle.rules.specs.Round.{notChosen};
 ghost use Rattle.asked.specs.Typed.{typedAt};
 ghost use Rattle.asked.specs.Overrides.{pointsAt, overridesFrom};
 use crate::numbers::List;
+use crate::numbers::Numbers;
+use crate::numbers::all_numbers;
 use crate::numbers::rest;
 use crate::numbers::take_numbers;
 use crate::numbers::too_large;
 use crate::numbers::two_bytes;
+use crate::numbers::unless;
 use check::same;
 use rules::BasisPoints;
 use rules::Chosen;
@@ -54,11 +57,13 @@ fn no_product(at: usize, out: &mut [u8; ANSWER]) -> usize {
     wrong(out, b"products are numbered 0 to 7", at)
 }
 
-// The draw's length and the overrides, and 0 where they were given; otherwise the length of the error that is in the answer.
+// The draw's length, the overrides and the length of the order, 0 where none is given, and 0 where all is well; otherwise the length of the
+// error that is in the answer.
 pub struct Drawn {
     pub said: usize,
     pub count: usize,
     pub overrides: [Chosen; 8],
+    pub ordered: usize,
 }
 
 fn none_chosen() -> [Chosen; 8]
@@ -70,9 +75,120 @@ fn none_chosen() -> [Chosen; 8]
     [none; 8]
 }
 
-// The pairs up to the end of a line, one at least, after a draw of so many numbers; the word before them stands at `key`. The first word
-// that is wrong is said. A ninth pair has the product of another.
-fn overrides(line: &[u8], c: Cursor, key: usize, count: usize, out: &mut [u8; ANSWER]) -> Drawn
+// ---- The order of the products
+
+// The next word begins an order.
+fn is_order(line: &[u8], c: Cursor) -> bool {
+    let w = word(line, c);
+    let a = w.from;
+    let e = w.to;
+    same(&line[a..e], b"order")
+}
+
+// The products up to the end of a line, one at least, as a draw's bidders are taken; the word before them stands at `key`.
+fn order(
+    line: &[u8],
+    c: Cursor,
+    key: usize,
+    products: &mut [u32; 40],
+    out: &mut [u8; ANSWER],
+) -> Numbers
+    ensures { λ _. ⌜ now (products .exit) ≡ typedAt (now (line .entry)) c 40 (now (products .entry)) .numbers ⌝ }
+{
+    match all_numbers(line, c, 40, products, out) {
+        Numbers::Found(n) => {
+            if n == 0 {
+                return Numbers::Said(wrong(
+                    out,
+                    b"an order has every product once; a number is missing",
+                    key,
+                ));
+            }
+            Numbers::Found(n)
+        }
+        Numbers::Said(n) => Numbers::Said(n),
+    }
+}
+
+// What stands after a draw of so many numbers and its overrides: nothing, or an order.
+fn at_end(
+    line: &[u8],
+    c: Cursor,
+    count: usize,
+    products: &mut [u32; 40],
+    out: &mut [u8; ANSWER],
+) -> Numbers {
+    if is_order(line, c) {
+        let w = word(line, c);
+        return order(line, Cursor { at: w.to }, w.from, products, out);
+    }
+    unless(rest(line, c, count, 40, out), 0)
+}
+
+// All of a line, where what comes before its end is not wrong already.
+fn ended(
+    line: &[u8],
+    c: Cursor,
+    said: usize,
+    count: usize,
+    overrides: [Chosen; 8],
+    products: &mut [u32; 40],
+    out: &mut [u8; ANSWER],
+) -> Drawn
+    ensures { λ r. ⌜ r .overrides ≡ overrides ⌝ }
+{
+    if said != 0 {
+        return Drawn {
+            said,
+            count,
+            overrides,
+            ordered: 0,
+        };
+    }
+    match at_end(line, c, count, products, out) {
+        Numbers::Found(ordered) => Drawn {
+            said,
+            count,
+            overrides,
+            ordered,
+        },
+        Numbers::Said(said) => Drawn {
+            said,
+            count,
+            overrides,
+            ordered: 0,
+        },
+    }
+}
+
+// ---- The overrides
+
+// Another word than a number, after the override at `at`: where it begins an order, a number is missing before it.
+fn no_number(line: &[u8], q: usize, at: usize, out: &mut [u8; ANSWER]) -> usize {
+    if is_order(line, Cursor { at: q }) {
+        return missing(at, out);
+    }
+    wrong(out, b"not a number", q)
+}
+
+// The same where n pairs are whole: after one of them an order may begin.
+fn no_pair(line: &[u8], q: usize, n: usize, key: usize, out: &mut [u8; ANSWER]) -> usize {
+    if (0 < n) & is_order(line, Cursor { at: q }) {
+        return 0;
+    }
+    no_number(line, q, key, out)
+}
+
+// The overrides and the place after them, and 0 where they were given; otherwise the length of the error.
+pub struct Pairs {
+    said: usize,
+    overrides: [Chosen; 8],
+    next: Cursor,
+}
+
+// The pairs up to an order or the end of a line, one at least; the word before them stands at `key`. The first word that is wrong is said.
+// A ninth pair has the product of another.
+fn overrides(line: &[u8], c: Cursor, key: usize, out: &mut [u8; ANSWER]) -> Pairs
     ensures { λ r. ⌜ r .overrides ≡ overridesFrom (now (line .entry)) c 9 (replicate 8 notChosen) ⌝ }
 {
     let mut overrides = none_chosen();
@@ -102,7 +218,7 @@ fn overrides(line: &[u8], c: Cursor, key: usize, count: usize, out: &mut [u8; AN
                         n += 1;
                     }
                     Points::NotANumber(q) => {
-                        said = wrong(out, b"not a number", q);
+                        said = no_number(line, q, first, out);
                         break;
                     }
                     Points::End => {
@@ -116,7 +232,7 @@ fn overrides(line: &[u8], c: Cursor, key: usize, count: usize, out: &mut [u8; AN
                 break;
             }
             Take::NotANumber(q) => {
-                said = wrong(out, b"not a number", q);
+                said = no_pair(line, q, n, key, out);
                 break;
             }
             Take::End => {
@@ -127,40 +243,64 @@ fn overrides(line: &[u8], c: Cursor, key: usize, count: usize, out: &mut [u8; AN
             }
         }
     }
-    Drawn {
+    Pairs {
         said,
-        count,
         overrides,
+        next: at,
     }
 }
 
-// What stands after a draw of so many numbers: nothing, or overrides.
-fn after_draw(line: &[u8], c: Cursor, count: usize, out: &mut [u8; ANSWER]) -> Drawn {
+// The overrides after a draw of so many numbers, and what stands after them.
+fn overridden(
+    line: &[u8],
+    c: Cursor,
+    key: usize,
+    count: usize,
+    products: &mut [u32; 40],
+    out: &mut [u8; ANSWER],
+) -> Drawn
+    ensures { λ r. ⌜ r .overrides ≡ overridesFrom (now (line .entry)) c 9 (replicate 8 notChosen) ⌝ }
+{
+    let pairs = overrides(line, c, key, out);
+    let overrides = pairs.overrides;
+    let next = pairs.next;
+    ended(line, next, pairs.said, count, overrides, products, out)
+}
+
+// What stands after a draw of so many numbers: overrides, or none of them.
+fn after_draw(
+    line: &[u8],
+    c: Cursor,
+    count: usize,
+    products: &mut [u32; 40],
+    out: &mut [u8; ANSWER],
+) -> Drawn {
     let w = word(line, c);
     let a = w.from;
     let e = w.to;
     if same(&line[a..e], b"override") {
-        return overrides(line, Cursor { at: e }, a, count, out);
+        return overridden(line, Cursor { at: e }, a, count, products, out);
     }
-    let said = rest(line, c, count, 40, out);
-    none_after(said, count)
+    ended(line, c, 0, count, none_chosen(), products, out)
 }
 
-fn none_after(said: usize, count: usize) -> Drawn {
-    let overrides = none_chosen();
-    Drawn {
-        said,
-        count,
-        overrides,
-    }
-}
-
-// A draw, 40 numbers at most, and the overrides after it.
-pub fn draw(line: &[u8], c: Cursor, numbers: &mut [u32; 40], out: &mut [u8; ANSWER]) -> Drawn
+// A draw, 40 numbers at most, and after it the overrides and the order of the products.
+pub fn draw(
+    line: &[u8],
+    c: Cursor,
+    numbers: &mut [u32; 40],
+    products: &mut [u32; 40],
+    out: &mut [u8; ANSWER],
+) -> Drawn
     ensures { λ _. ⌜ now (numbers .exit) ≡ typedAt (now (line .entry)) c 40 (now (numbers .entry)) .numbers ⌝ }
 {
     match take_numbers(line, c, 0, 40, numbers) {
-        List::Found(n, next) => after_draw(line, next, n as usize, out),
-        List::TooLarge(p) => none_after(too_large(p, out), 0),
+        List::Found(n, next) => after_draw(line, next, n as usize, products, out),
+        List::TooLarge(p) => Drawn {
+            said: too_large(p, out),
+            count: 0,
+            overrides: none_chosen(),
+            ordered: 0,
+        },
     }
 }

@@ -7,8 +7,8 @@ use lib.ListN.{length}
 use Rattle.rules.specs.declared.Settings.{Settings}
 use Rattle.rules.specs.declared.Tranches.{Tranches}
 use Rattle.rules.specs.declared.Chosen.{Chosen}
-use Rattle.rules.specs.Calls.{openCall, fileCall, calculateCall, cutbackCall, returnCall}
-use Rattle.rules.specs.Uses.{opens, files, calculates, cuts, called, returned, used, Called, Reached}
+use Rattle.rules.specs.Calls.{openCall, fileCall, calculateCall, plainCall, cutbackCall, returnCall}
+use Rattle.rules.specs.Uses.{opens, files, calculates, calculatesPlain, cuts, called, returned, used, Called, Reached}
 use Rattle.calls.specs.Lines.{openWord, fileWord, bidWord, calculateWord, cutbackWord, returnWord, Made, Left, firstWord, Step, Steps, Served, NoUndo}
 
 module _ (s t : List ℕ) where
@@ -23,6 +23,9 @@ module _ (s t : List ℕ) where
 
   pub calculated : (draw : List ℕ) (os : List Chosen) → t ≡ calculateCall s draw os .bytes → Made calculateWord s t
   calculated draw os e = inr (called (calculates draw os) tt, (refl, e))
+
+  pub calculated-plain : (draw : List ℕ) (os : List Chosen) (order : List ℕ) → t ≡ plainCall s draw os order .bytes → Made calculateWord s t
+  calculated-plain draw os order e = inr (called (calculatesPlain draw os order) tt, (refl, e))
 
   pub cut : (targets caps : List Tranches) → t ≡ cutbackCall s targets caps .bytes → Made cutbackWord s t
   cut targets caps e = inr (called (cuts targets caps) tt, (refl, e))

@@ -3,7 +3,7 @@ use Prim.Native.Nat.{ℕ}
 use mathlib.Core.Path.{_≡_}
 use mathlib.Core.Logic.{_⊎_}
 use mathlib.Core.List.{List, [], _∷_}
-use Rattle.rules.specs.Uses.{opens, files, counts, calculates, cuts, reports, results, reads, writes, suggests, Use, called, returned, used}
+use Rattle.rules.specs.Uses.{opens, files, counts, calculates, calculatesPlain, cuts, reports, results, reads, writes, suggests, Use, called, returned, used}
 use Rattle.text.specs.Words.{spanAt, bytesIn}
 
 -- `open`, `file`, `bid`, `calculate`, `cutback`, `return`, `undo`
@@ -34,6 +34,7 @@ Names w (called (opens x) h) = w ≡ openWord
 Names w (called (files c) h) = (w ≡ fileWord) ⊎ (w ≡ bidWord)
 Names w (called counts h) = ⊥
 Names w (called (calculates draw os) h) = w ≡ calculateWord
+Names w (called (calculatesPlain draw os order) h) = w ≡ calculateWord
 Names w (called (cuts targets caps) h) = w ≡ cutbackWord
 Names w (called (reports b) h) = ⊥
 Names w (called results h) = ⊥

@@ -137,11 +137,28 @@ fn return_box(
 
 // ---- A calculation
 
-// `ok kept K outbid O`, and what the round did; or what is wrong with the draw or an override.
+// By rank, or where an order of the products is given by the plain engine in that order: what they answer and leave is the same, and so is
+// what is said of it.
+fn calculate_on(
+    work: &mut [u8; STATE],
+    draw: &[u8],
+    overrides: [Chosen; 8],
+    order: &[u8],
+) -> Calculation
+    ensures { λ _. ⌜ Makes calculateWord (now (work .entry)) (now (work .exit)) ⌝ }
+{
+    if order.len() == 0 {
+        return console::calculate(work, draw, overrides);
+    }
+    console::calculate_plain(work, draw, overrides, order)
+}
+
+// `ok kept K outbid O`, and what the round did; or what is wrong with the draw, an override or the order.
 fn calculated(
     answer: Calculation,
     draw: &[u8],
     overrides: [Chosen; 8],
+    order: &[u8],
     before: &[u8; STATE],
     work: &[u8; STATE],
     out: &mut [u8; ANSWER],
@@ -158,13 +175,13 @@ fn calculated(
         }
         Calculation::Refused(n) => {
             let a = put_refused(out, n);
-            let b = remark::of_round(out, a, n, work, draw, overrides);
+            let b = remark::of_round(out, a, n, work, draw, overrides, order);
             Made::Said(put(out, b, b"\n"))
         }
     }
 }
 
-// `calculate D0 D1 .. override PRODUCT POINTS ..`
+// `calculate D0 D1 .. override PRODUCT POINTS .. order P0 P1 ..`
 fn calculate(
     line: &[u8],
     c: Cursor,
@@ -175,7 +192,8 @@ fn calculate(
     ensures { λ _. ⌜ Makes calculateWord (now (work .entry)) (now (work .exit)) ⌝ }
 {
     let mut numbers = [0u32; 40];
-    let asked = asked::draw(line, c, &mut numbers, out);
+    let mut products = [0u32; 40];
+    let asked = asked::draw(line, c, &mut numbers, &mut products, out);
     if asked.said != 0 {
         return Made::Said(asked.said);
     }
@@ -184,14 +202,27 @@ fn calculate(
         return Made::Said(wrong);
     }
     let draw = draw_of(numbers);
+    let order = draw_of(products);
     let k = asked.count;
+    let m = asked.ordered;
     if 40 < k {
+        return Made::Other;
+    }
+    if 40 < m {
         return Made::Other;
     }
     let overrides = asked.overrides;
     let before = copy_of(work);
-    let answer = console::calculate(work, &draw[0..k], overrides);
-    calculated(answer, &draw[0..k], overrides, &before, work, out)
+    let answer = calculate_on(work, &draw[0..k], overrides, &order[0..m]);
+    calculated(
+        answer,
+        &draw[0..k],
+        overrides,
+        &order[0..m],
+        &before,
+        work,
+        out,
+    )
 }
 
 // How many products a bid or a cutback has to name, or how long the refusal is where neither is open to it.

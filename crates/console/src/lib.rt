@@ -1,9 +1,12 @@
 // The console: the calls of documents 01 and 02 on lent bytes, and nothing else. Each call's contract is its one definition in the
 // crate rules, specs/Calls.antt: its answer and every byte that it may write, for every input. `Leaves` and `Gives` are the shape of a
 // contract; any two outcomes that have it coincide (rules/Settling: leaves-one, gives-one).
+ghost use mathlib.Core.Path.{_≡_};
+ghost use Rattle.rules.specs.declared.Calculation.the-variants as calculation;
 ghost use Rattle.rules.specs.Answers.{Leaves, Gives};
-ghost use Rattle.rules.specs.Calls.{openCall, fileCall, countCall, calculateCall, cutbackCall, reportCall, resultCall, returnCall, readCall, writeCall, suggestedCall};
+ghost use Rattle.rules.specs.Calls.{openCall, fileCall, countCall, calculateCall, plainCall, cutbackCall, reportCall, resultCall, returnCall, readCall, writeCall, suggestedCall};
 use layout::STATE;
+use round::Tally;
 use rules::Answer;
 use rules::Awarded;
 use rules::Calculation;
@@ -60,6 +63,16 @@ pub fn count(s: &[u8]) -> Count
     Count::ToFile(still)
 }
 
+// "The calculation answers the count of tranches kept in step 2 and outbid in step 4."
+fn counted(done: Tally) -> Calculation
+    ensures { λ r. ⌜ r ≡ calculation.Done (done .kept) (done .outbid) ⌝ }
+{
+    Calculation::Done {
+        kept: done.kept,
+        outbid: done.outbid,
+    }
+}
+
 // Calculate a round, with one optional override a product: 1, 2, 3, 14, 19.
 pub fn calculate(s: &mut [u8], draw: &[u8], overrides: [Chosen; 8]) -> Calculation
     ensures { λ r. ⌜ Leaves (calculateCall (now (s .entry)) (now (draw .entry)) overrides) r (now (s .exit)) ⌝ }
@@ -69,10 +82,24 @@ pub fn calculate(s: &mut [u8], draw: &[u8], overrides: [Chosen; 8]) -> Calculati
         return Calculation::Refused(n);
     }
     let done = round::calculate(s, draw, overrides);
-    Calculation::Done {
-        kept: done.kept,
-        outbid: done.outbid,
+    counted(done)
+}
+
+// Calculate a round whose step 2 goes by an order of the products, not by rank: 1, 2, 3, 14, 19, 23.
+pub fn calculate_plain(
+    s: &mut [u8],
+    draw: &[u8],
+    overrides: [Chosen; 8],
+    order: &[u8],
+) -> Calculation
+    ensures { λ r. ⌜ Leaves (plainCall (now (s .entry)) (now (draw .entry)) overrides (now (order .entry))) r (now (s .exit)) ⌝ }
+{
+    let n = numbers::plain_number(s, draw, overrides, order);
+    if n != 0 {
+        return Calculation::Refused(n);
     }
+    let done = round::calculate_plain(s, draw, overrides, order);
+    counted(done)
 }
 
 // Cut the volume back after round 1: 1, 2, 3, 20.

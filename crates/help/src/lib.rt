@@ -35,9 +35,10 @@ fn put_rounds(out: &mut [u8; ANSWER]) -> usize {
     put(
         out,
         a,
-        b"    calculate D0 D1 .. [override P POINTS ..]
+        b"    calculate D0 D1 .. [override P POINTS ..] [order P0 P1 ..]
                           calculate the round; all bidders in draw order, earliest first; an
-                          override is the manager's decrement for product P, in this round alone
+                          override is the manager's decrement for product P, in this round alone;
+                          an order of all products, in place of rank, changes nothing
     show                  the whole state
     undo                  put back the state before the last calculation or return, once
     suggest BID RATIO     after round 1: the volume for BID tranches bid, RATIO in hundredths

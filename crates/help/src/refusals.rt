@@ -159,6 +159,15 @@ pub fn put_no_cutback(out: &mut [u8; ANSWER], at: usize) -> usize {
     )
 }
 
+pub fn put_order(out: &mut [u8; ANSWER], at: usize) -> usize {
+    put(
+        out,
+        at,
+        b"    23  the order has not every product once: name them all, also those whose price has not fallen
+",
+    )
+}
+
 pub fn put_products(out: &mut [u8; ANSWER], at: usize) -> usize {
     put(
         out,
@@ -219,13 +228,14 @@ pub fn put_refusals(out: &mut [u8; ANSWER]) -> usize {
     let b = put_second(out, a);
     let c = put_override(out, b);
     let d = put_no_cutback(out, c);
-    let e = put_products(out, d);
-    let f = put_fields(out, e);
-    let g = put_ratio(out, f);
+    let e = put_order(out, d);
+    let f = put_products(out, e);
+    let g = put_fields(out, f);
+    let h = put_ratio(out, g);
     put(
         out,
-        g,
-        b"  21 to 28 and all above 31 are never given.
+        h,
+        b"  21, 22, 24 to 28 and all above 31 are never given.
 ",
     )
 }

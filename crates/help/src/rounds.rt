@@ -10,12 +10,15 @@ pub fn put_calculate(out: &mut [u8; ANSWER]) -> usize {
         b"ok
   calculate D0 D1 ..
   calculate D0 D1 .. override P POINTS ..
+  calculate D0 D1 .. [override P POINTS ..] order P0 P1 ..
       calculates the round
   words
     D0 D1 ..  all bidders, each once, in the order of the draw, earliest first; also those who have
               not filed. Draw by lot, best before the bids are seen; the box draws nothing
     P POINTS  of each product whose price is to fall by your decrement instead of that of its row:
               the product, and 1 to 1000 basis points. It holds for this calculation alone
+    P0 P1 ..  all products, each once, in any order: which is served before which, where several
+              are short. Without it they are by rank, as they stand in open
     The answer is ok kept K outbid O: K tranches are kept to fill a target, withdrawals that are
     retained and switches that are denied; O that were kept before are outbid by new tranches.
   default bids
@@ -31,6 +34,10 @@ pub fn put_calculate(out: &mut [u8; ANSWER]) -> usize {
     A price that falls by your decrement is overridden: the answer, show and every report say so
     until the next calculation or a cutback. An override does nothing where the product is not above
     target, or where the auction closes or stops; the answer says which did nothing.
+  an order of the products
+    Does rank favour a product where several are short? No: each order of the products gives the
+    same answer and leaves the same box, byte for byte. To show it, calculate, undo, and calculate
+    with an order: as often as you like, and whichever is the last may stand.
   changes
     The box: the next round is open at its prices, or the auction is closed (total excess supply is
     0), or stopped (a product above target at price 1, or round 4095). The state before is kept as
@@ -41,16 +48,22 @@ pub fn put_calculate(out: &mut [u8; ANSWER]) -> usize {
     let c = refusals::put_not_open(out, b);
     let d = refusals::put_draw(out, c);
     let e = refusals::put_override(out, d);
+    let f = refusals::put_order(out, e);
     put(
         out,
-        e,
-        b"  example, at the end of round 1 of examples/new-jersey
-    > calculate 2 3 1 0 5 4 override 0 200
-    ok kept 0 outbid 0
+        f,
+        b"  example, at the end of round 6 of examples/new-jersey
+    > calculate 5 4 0 2 1 3 override 1 200
+    ok kept 4 outbid 0
     > show
-    ok open round 2 unit kwh statewide 21
-      product 0 target 29 cap 14 start 14500 price 14210 before 14500 held 44 overridden
-    The price of product 0 falls by 2 percent; without an override it falls by the 4.25 of its row.
+    ok open round 7 unit kwh statewide 21
+      product 1 target 20 cap 9 start 14500 price 12135 before 12383 held 29 overridden
+    The price of product 1 falls by 2 percent; without an override it falls by the 4.25 of its row.
+    > undo
+    ok
+    > calculate 5 4 0 2 1 3 override 1 200 order 3 2 1 0
+    ok kept 4 outbid 0
+    Products 0 and 2 were short. Now 2 was served before 0, and nothing is different.
 ",
     )
 }

@@ -139,6 +139,9 @@ pub fn put_order(out: &mut [u8; ANSWER]) -> usize {
     the two it was. A refused card leaves the box as it is, and is refused wherever it stands.
     What is left of a round's cards is each bidder's last accepted one. The journal has each card
     that changed the box, in the order in which they were entered.
+  the order of the products
+    The rank of the products favours none where several are short: calculate D0 D1 .. order P0 P1 ..
+    goes by any other order, and gives the same answer and the same box (help calculate).
 ",
     );
     put(

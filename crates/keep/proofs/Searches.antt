@@ -52,6 +52,20 @@ module _ (R : ℕ → Place → Type 0) (vs : List ℕ) (ps : List Place) (long 
 
 -- ---- of the places of one product
 
+-- the next turn, that of number j of the draw, bidder b, is a withdrawal's
+pub record Withdrawal (ps : List Place) (draw : ℕ → ℕ) (n p j b : ℕ) : Type 0 where
+  pub first : leaver n draw ps p ≡ At j
+  pub some : 0 < leavingOf (placeAt ps (b * 8 + p))
+  pub drawn : j < n
+
+-- and a switch's
+pub record Switch (ps : List Place) (draw : ℕ → ℕ) (n p j b : ℕ) : Type 0 where
+  pub none : leaver n draw ps p ≡ Nobody
+  pub first : mover n draw ps p ≡ At j
+  pub nothing : leavingOf (placeAt ps (b * 8 + p)) ≤ 0
+  pub some : 0 < movingOf (placeAt ps (b * 8 + p))
+  pub drawn : j < n
+
 module _ (ps : List Place) (turns : List ℕ) (E : Each Timed turns ps) (draw : ℕ → ℕ) (n p : ℕ) (ln : n ≤ 32) (lp : p < 8)
     (range : (i : ℕ) → i < n → draw i < n) where
   abbrev leaves : ℕ → Bool
@@ -79,27 +93,13 @@ module _ (ps : List Place) (turns : List ℕ) (E : Each Timed turns ps) (draw : 
     pub next-nothing : s .turn ≡ 4294967297 → (leaver n draw ps p ≡ Nobody) × (mover n draw ps p ≡ Nobody)
     next-nothing z = next-nobody leaves moves exits (λ i. 4294967296) 4294967296 n apart s same z
 
-    -- the next turn is a withdrawal's
-    pub record Withdrawal (j : ℕ) : Type 0 where
-      pub first : leaver n draw ps p ≡ At j
-      pub some : 0 < leavingOf (placeAt ps (draw j * 8 + p))
-      pub drawn : j < n
-
-    -- the next turn is a switch's
-    pub record Switch (j : ℕ) : Type 0 where
-      pub none : leaver n draw ps p ≡ Nobody
-      pub first : mover n draw ps p ≡ At j
-      pub nothing : leavingOf (placeAt ps (draw j * 8 + p)) ≤ 0
-      pub some : 0 < movingOf (placeAt ps (draw j * 8 + p))
-      pub drawn : j < n
-
-    pub next-withdrawal : s .turn < 4294967296 → Withdrawal (s .at)
+    pub next-withdrawal : s .turn < 4294967296 → Withdrawal ps draw n p (s .at) (draw (s .at))
     next-withdrawal l =
         let z = next-first leaves moves exits (λ i. 4294967296) 4294967296 n apart s same (omega arith) l in
         let f = best-found leaves (λ i j. ltb (exits i) (exits j)) n (s .at) z in
         record { first = z; some = ltb-true _ _ (f .1); drawn = f .0 }
 
-    pub next-switch : 4294967296 ≤ s .turn → (s .turn ≡ 4294967297 → ⊥) → Switch (s .at)
+    pub next-switch : 4294967296 ≤ s .turn → (s .turn ≡ 4294967297 → ⊥) → Switch ps draw n p (s .at) (draw (s .at))
     next-switch l d =
         let w = next-second leaves moves exits (λ i. 4294967296) 4294967296 n apart s same l d in
         let f = best-found moves never n (s .at) (w .1) in

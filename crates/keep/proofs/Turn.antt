@@ -1,8 +1,8 @@
 -- The loop of step 2: what is left gives the same answer after every tranche kept. Assumes nothing.
-use mathlib.Core.Path.{_≡_, refl, sym, _∙_, ap}
-use mathlib.Core.Bool.{Bool, true, false, _&&_}
+use mathlib.Core.Path.{_≡_, refl, sym, _∙_, ap, ap₂}
+use mathlib.Core.Bool.{Bool, true, false, _&&_, cond}
 use mathlib.Core.List.{List}
-use Prim.Native.Nat.{ℕ, zero, suc, _+_, _≤_, _<_}
+use Prim.Native.Nat.{ℕ, zero, suc, _+_, _-_, _≤_, _<_}
 use native.Mathlib.Omega.{arith}
 use Rattle.rules.specs.declared.Kept.{Kept}
 use Rattle.rules.specs.declared.Pick.{Pick}
@@ -10,18 +10,15 @@ use Rattle.rules.specs.declared.Pick.the-variants.{At, Nobody}
 use Rattle.rules.specs.declared.Place.{Place}
 use Rattle.rules.specs.Count.{firstUpTo, never}
 use Rattle.rules.specs.Held.{standing, below}
-use Rattle.rules.specs.Accept.{every, leftOf}
-use Rattle.rules.specs.Keep.{short, keepStep, canKeep, kept, keepLoop, keptAll}
+use Rattle.rules.specs.Keep.{short, keepStep, canKeep, kept, keepLoop}
 use Rattle.rules.specs.Round.{drawn}
 use Rattle.rules.proofs.Sums.{best-found}
 use Rattle.table.specs.Drawn.{Drawn}
 use Rattle.held.specs.Ticks.{isOne}
-use Rattle.table.specs.declared.Next.{Next}
 use Rattle.table.specs.Room.{targetOn}
 use Rattle.table.proofs.Laws.{first-ext}
-use Rattle.keep.specs.Search.{nextUpTo}
-use Rattle.keep.specs.Step.{Booked, shortBy, Numbered}
-use Rattle.keep.proofs.Searches.{next-nothing}
+use Rattle.keep.specs.Step.{shortBy}
+use Rattle.keep.specs.Work.{Working, Keeping, KeptNext}
 
 -- ---- one turn of the definition
 
@@ -50,78 +47,60 @@ module _ (m n : ℕ) (target : ℕ → ℕ) (tick : ℕ → Bool) (draw : ℕ �
 
 -- ---- one turn of the code
 
-module _ (m n : ℕ) (targets ticks order : List ℕ) (ps₀ : List Place) (fuel₀ : ℕ) where
-  abbrev pub rest : ℕ → List Place → ℕ → Kept
-  rest fuel ps count = keepLoop m n (targetOn targets) (isOne ticks) (drawn order) fuel ps count
-
-  pub record Turn (ps : List Place) (held turns ranks : List ℕ) (count fuel : ℕ) : Type 0 where
-    pub same : rest fuel ps count ≡ rest fuel₀ ps₀ 0
-    pub book : Booked ps held n
-    pub numbers : Numbered ps turns ranks
-    pub some : count + fuel ≤ 83884800
-
-  pub turn-start : (held turns ranks : List ℕ) → Booked ps₀ held n → Numbered ps₀ turns ranks → fuel₀ ≤ 83884800
-      → Turn ps₀ held turns ranks 0 fuel₀
-  turn-start held turns ranks B N l = record { same = refl; book = B; numbers = N; some = omega arith }
-
--- the loop's values, with what the caller ensures
-pub record Loop : Type 0 where
-  pub m : ℕ
-  pub n : ℕ
-  pub targets : List ℕ
-  pub ticks : List ℕ
-  pub order : List ℕ
-  pub ps₀ : List Place
-  pub fuel₀ : ℕ
-  pub ps : List Place
-  pub held : List ℕ
-  pub turns : List ℕ
-  pub ranks : List ℕ
-  pub count : ℕ
-  pub fuel : ℕ
+-- what is left gives the whole
+pub record Turn (m n : ℕ) (targets ticks order : List ℕ) (whole : Kept) (ps : List Place) (held turns ranks : List ℕ) (count fuel : ℕ) : Type 0 where
   pub few : m ≤ 8
   pub draw : Drawn n order
-  pub turn : Turn m n targets ticks order ps₀ fuel₀ ps held turns ranks count fuel
+  pub working : Working n ps held turns ranks
+  pub some : count + fuel ≤ 83884800
+  pub same : keepLoop m n (targetOn targets) (isOne ticks) (drawn order) fuel ps count ≡ whole
 
-module _ (w : Loop) where
-  -- what the whole is to be
-  abbrev pub whole : Kept
-  whole = rest (w .m) (w .n) (w .targets) (w .ticks) (w .order) (w .ps₀) (w .fuel₀) (w .fuel₀) (w .ps₀) 0
+module _ {m n : ℕ} {targets ticks order : List ℕ} {whole : Kept} {ps : List Place} {held turns ranks : List ℕ} {count fuel : ℕ}
+    (t : Turn m n targets ticks order whole ps held turns ranks count fuel) where
+  pub turn-out : fuel ≤ 0 → kept ps count ≡ whole
+  turn-out l = sym (loop-out m n (targetOn targets) (isOne ticks) (drawn order) ps fuel count l) ∙ t .same
 
-  abbrev pub aim : ℕ → ℕ
-  aim = targetOn (w .targets)
+  module _ (q : Pick) (e : q ≡ firstUpTo (shortBy held targets ticks) m) where
+    -- the code looks at what it has counted, the definition counts anew
+    first-same : firstUpTo (short n (targetOn targets) (isOne ticks) ps) m ≡ q
+    first-same =
+        sym (e ∙ first-ext (shortBy held targets ticks) (short n (targetOn targets) (isOne ticks) ps) m
+        (λ p l. ap (λ h. isOne ticks p && below (standing h (targetOn targets p)))
+        (t .working .book .holds .each p (omega (arith, t .few)))))
 
-  abbrev pub firstShort : Pick
-  firstShort = firstUpTo (short (w .n) aim (isOne (w .ticks)) (w .ps)) (w .m)
+    pub turn-none : q ≡ Nobody → kept ps count ≡ whole
+    turn-none f = sym (loop-none m n (targetOn targets) (isOne ticks) (drawn order) ps fuel count (first-same ∙ f)) ∙ t .same
 
-  pub turn-all : w .fuel₀ ≡ every leftOf (w .ps₀) (w .n)
-      → whole ≡ keptAll (w .m) (w .n) aim (isOne (w .ticks)) (drawn (w .order)) (w .ps₀)
-  turn-all e = ap (λ f. keepLoop (w .m) (w .n) aim (isOne (w .ticks)) (drawn (w .order)) f (w .ps₀) 0) e
+    -- a tranche kept on the short product, or none left to keep there
+    module _ (p : ℕ) (f : q ≡ At p) where
+      pub turn-keeping : Keeping m n order ps held turns ranks p
+      turn-keeping =
+          let l = best-found (short n (targetOn targets) (isOne ticks) ps) never m p (first-same ∙ f) .0 in
+          record { few = t .few; draw = t .draw; product = omega (arith, t .few); working = t .working }
 
-  -- the code looks at what it has counted, the definition counts anew
-  pub first-same : (q : Pick) → q ≡ firstUpTo (shortBy (w .held) (w .targets) (w .ticks)) (w .m) → firstShort ≡ q
-  first-same q e =
-      sym (e ∙ first-ext (shortBy (w .held) (w .targets) (w .ticks)) (short (w .n) aim (isOne (w .ticks)) (w .ps)) (w .m)
-      (λ p l. ap (λ h. isOne (w .ticks) p && below (standing h (aim p))) (w .turn .book .holds .each p (omega (arith, w .few)))))
+      module _ {r : Bool} {ps′ : List Place} {held′ turns′ ranks′ : List ℕ} (K : KeptNext m n order ps p r ps′ held′ turns′ ranks′) where
+        places-by : {b : Bool} → r ≡ b → ps′ ≡ cond b (keepStep m n (drawn order) ps p) ps
+        places-by z = K .places ∙ ap (λ b. cond b (keepStep m n (drawn order) ps p) ps) z
 
-  pub turn-none : firstShort ≡ Nobody → kept (w .ps) (w .count) ≡ whole
-  turn-none e =
-      sym (loop-none (w .m) (w .n) aim (isOne (w .ticks)) (drawn (w .order)) (w .ps) (w .fuel) (w .count) e) ∙ w .turn .same
+        pub turn-idle : r ≡ false → kept ps′ count ≡ whole
+        turn-idle z =
+            ap (λ x. kept x count) (places-by z)
+            ∙ sym (loop-idle m n (targetOn targets) (isOne ticks) (drawn order) ps fuel count p (first-same ∙ f) (sym (K .can) ∙ z))
+            ∙ t .same
 
-  pub turn-out : w .fuel ≤ 0 → kept (w .ps) (w .count) ≡ whole
-  turn-out l =
-      sym (loop-out (w .m) (w .n) aim (isOne (w .ticks)) (drawn (w .order)) (w .ps) (w .fuel) (w .count) l) ∙ w .turn .same
-
-  pub turn-product : (p : ℕ) → firstShort ≡ At p → p < 8
-  turn-product p e =
-      let f = best-found (short (w .n) aim (isOne (w .ticks)) (w .ps)) never (w .m) p e in omega (arith, f .0, w .few)
-
-  pub turn-idle : (p : ℕ) → firstShort ≡ At p → (s : Next) → s ≡ nextUpTo (w .turns) (drawn (w .order)) p (w .n) → s .turn ≡
-      4294967297
-      → kept (w .ps) (w .count) ≡ whole
-  turn-idle p e s f z =
-      let d = w .draw in
-      let i = next-nothing (w .ps) (w .turns) (w .turn .numbers .timed) (drawn (w .order)) (w .n) p (d .few) (turn-product p e)
-      (d .range) s f z in
-      sym (loop-idle (w .m) (w .n) aim (isOne (w .ticks)) (drawn (w .order)) (w .ps) (w .fuel) (w .count) p e (rw (i .0, i .1)))
-      ∙ w .turn .same
+        pub turn-again : r ≡ true → 0 < fuel → (c : ℕ) → c ≡ count + 1
+            → Turn m n targets ticks order whole ps′ held′ turns′ ranks′ c (fuel - 1)
+        turn-again z l c ec =
+            let go = keepLoop m n (targetOn targets) (isOne ticks) (drawn order) in
+            let one : suc (fuel - 1) ≡ fuel = omega arith in
+            record {
+              few = t .few;
+              draw = t .draw;
+              working = K .working;
+              some = omega (arith, t .some);
+              same =
+                  ap₂ (go (fuel - 1)) (places-by z) ec
+                  ∙ sym (loop-step m n (targetOn targets) (isOne ticks) (drawn order) ps (fuel - 1) count p (first-same ∙ f)
+                  (sym (K .can) ∙ z))
+                  ∙ ap (λ f. go f ps count) one ∙ t .same;
+            }

@@ -3,7 +3,8 @@
 // withdrawals kept the round before, or `r`, which reads the state from standard input. With four lots of each bidder on each product: `l`
 // keeps 1,600, `m` outbids 1,400 kept the round before, and `x` outbids 1,600, of a state that stands and that no auction comes to. Then
 // `k` calculates it, `c` only counts its cards, which judges the state as every call does, `b` writes its bytes, and `a` those after the
-// calculation. Apart from a state, `d` reads the largest card, and `e` writes it.
+// calculation; `p` and `n` do as `k` and `a` by the plain engine, the products backwards. Apart from a state, `d` reads the largest card, and
+// `e` writes it.
 ghost use mathlib.Core.Path.{_≡_};
 ghost use lib.ListN.{length};
 use layout::FREE;
@@ -223,9 +224,7 @@ fn say(words: &[u8], n: u32) {
     io::print_decimal(STDOUT_FILENO, n as u64);
 }
 
-fn calculated(start: [u8; STATE]) {
-    let mut state = start;
-    let answer = console::calculate(&mut state, &draw(), no_overrides());
+fn told(answer: Calculation) {
     match answer {
         Calculation::Done { kept, outbid } => {
             say(b"kept ", kept);
@@ -234,6 +233,21 @@ fn calculated(start: [u8; STATE]) {
         Calculation::Refused(n) => say(b"refused ", n as u32),
     }
     io::write_all(STDOUT_FILENO, b"\n");
+}
+
+fn calculated(start: [u8; STATE]) {
+    let mut state = start;
+    told(console::calculate(&mut state, &draw(), no_overrides()));
+}
+
+// The last in rank goes first.
+fn backwards() -> [u8; 8] {
+    [7, 6, 5, 4, 3, 2, 1, 0]
+}
+
+fn calculated_backwards(start: [u8; STATE]) {
+    let mut state = start;
+    told(console::calculate_plain(&mut state, &draw(), no_overrides(), &backwards()));
 }
 
 fn counted(state: [u8; STATE]) {
@@ -252,6 +266,12 @@ fn written(state: [u8; STATE]) {
 fn written_after(start: [u8; STATE]) {
     let mut state = start;
     console::calculate(&mut state, &draw(), no_overrides());
+    io::write_all(STDOUT_FILENO, &state);
+}
+
+fn written_after_backwards(start: [u8; STATE]) {
+    let mut state = start;
+    console::calculate_plain(&mut state, &draw(), no_overrides(), &backwards());
     io::write_all(STDOUT_FILENO, &state);
 }
 
@@ -321,6 +341,8 @@ fn act(state: [u8; STATE], letter: u8) {
         b'c' => counted(state),
         b'b' => written(state),
         b'a' => written_after(state),
+        b'p' => calculated_backwards(state),
+        b'n' => written_after_backwards(state),
         b'd' => read_card(),
         b'e' => written_card(),
         _ => {}

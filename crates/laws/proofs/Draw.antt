@@ -4,7 +4,7 @@ use mathlib.Core.Bool.{Bool, true, false, _&&_}
 use mathlib.Core.List.{List}
 use Prim.Native.Nat.{ℕ, _≤_, _<_}
 use native.Mathlib.Omega.{arith}
-use borrow.Author.Tests.{eqb-true, eqb-false, eq-eqb, ne-eqb, ltb-true}
+use borrow.Author.Tests.{eqb-true, eqb-false, eq-eqb, ne-eqb, ltb-true, lt-ltb}
 use lib.ListN.{length}
 use lib.Dec.{eqb, ltb}
 use Rattle.rules.specs.declared.Pick.{Pick}
@@ -12,8 +12,8 @@ use Rattle.rules.specs.declared.Pick.the-variants.{At, Nobody}
 use Rattle.rules.specs.Count.{sumUpTo, allUpTo, firstUpTo, never, isAt}
 use Rattle.rules.specs.Bid.{oneIf}
 use Rattle.rules.specs.Round.{drawn, drawFits}
-use Rattle.rules.proofs.Sums.{sum-ext, sum-zero, sum-ge, sum-one, sum-two, sum-swap, sum-tight, and-left, and-right, best-found}
-use Rattle.rules.proofs.Lists.{clash, all-take}
+use Rattle.rules.proofs.Sums.{sum-ext, sum-zero, sum-ge, sum-one, sum-two, sum-swap, sum-tight, and-left, and-right, best-found, best-none}
+use Rattle.rules.proofs.Lists.{clash, both, all-take, all-give}
 
 module _ (n : ℕ) (order : List ℕ) (D : drawFits n order ≡ true) where
   abbrev found : ℕ → Pick
@@ -74,3 +74,19 @@ module _ (n : ℕ) (order : List ℕ) (D : drawFits n order ≡ true) where
           let x = ap oneIf (eq-eqb (drawn order i) (drawn order i) refl) in
           let y = ap oneIf (eq-eqb (drawn order j) (drawn order i) (sym e)) in
           absurd (let z : ⊥ = omega (arith, times-most (drawn order i) (draw-range i li)) in z)
+
+-- such an order fits: nothing else is asked of it
+pub draw-fits : (n : ℕ) (order : List ℕ) → length order ≡ n → ((i : ℕ) → i < n → drawn order i < n)
+    → ((b : ℕ) → b < n → (i : ℕ) × (i < n) × (drawn order i ≡ b)) → drawFits n order ≡ true
+draw-fits n order long range reach =
+    both (eq-eqb (length order) n long)
+    (both (all-give (λ i. ltb (drawn order i) n) n (λ i l. lt-ltb (drawn order i) n (range i l)))
+    (all-give (λ b. isAt (found b)) n (λ b l. by b (reach b l) (found b) refl)))
+  where
+    found : ℕ → Pick
+    found b = firstUpTo (λ i. eqb (drawn order i) b) n
+
+    by : (b : ℕ) → (i : ℕ) × (i < n) × (drawn order i ≡ b) → (q : Pick) → found b ≡ q → isAt q ≡ true
+    by b r (At i) e = refl
+    by b r Nobody e =
+        clash (eq-eqb (drawn order (r .0)) b (r .2)) (best-none (λ i. eqb (drawn order i) b) never n e (r .0) (r .1))

@@ -12,4 +12,5 @@ pub mod Settled
 pub mod Round
 pub mod Cutback
 pub mod OneCall
+pub mod Plain
 pub mod Spare

@@ -19,13 +19,13 @@ use Rattle.rules.specs.Answers.{outcome, said, answerOf, calculationSaid, unles
 use Rattle.rules.specs.Settings.{settingsFit, setup, setupOf}
 use Rattle.laws.specs.OneCall.{StandsIn, RefusedSame, FiledOnly, PriceBy, CutOnly, CutPrice}
 use Rattle.rules.specs.Held.{excess}
-use Rattle.rules.specs.Round.{drawFits, overrideFor, overridesFit, afterStep2, afterStep4, atRest, onward, stops, settled, calculated}
+use Rattle.rules.specs.Round.{drawFits, overrideFor, overridesFit, afterStep2, afterStep4, atRest, onward, stops, settled, calculated, calculatedPlain}
 use Rattle.rules.specs.Cutback.{mayCut, cutBack, suggestedVolume, suggestedNumber}
 use Rattle.rules.specs.Bits.{Bytes}
 use Rattle.rules.specs.Layout.{stateLength, stored, loaded, allZero}
 use Rattle.rules.specs.Legal.{isOpen, stands}
 use Rattle.rules.specs.Card.{readCard, cardOf, writeNumber, writeCard}
-use Rattle.rules.specs.Calls.{opened, openNumber, openCall, ofState, cardNumber, fileNumber, bidderOn, afterCard, fileCall, countNumber, roundNumber, calculateNumber, calculationDone, calculateCall, cutNumber, cutbackNumber, cutbackCall, reportNumber, resultNumber, returnNumber, returnCall}
+use Rattle.rules.specs.Calls.{opened, openNumber, openCall, ofState, cardNumber, fileNumber, bidderOn, afterCard, fileCall, countNumber, roundNumber, calculateNumber, calculationDone, calculateCall, plainNumber, plainCall, cutNumber, cutbackNumber, cutbackCall, reportNumber, resultNumber, returnNumber, returnCall}
 use Rattle.rules.proofs.Lists.{clash, all-give, all-take}
 use Rattle.rules.specs.Stands.{Stands}
 use Rattle.rules.proofs.Legal.{stands-take, stands-give}
@@ -66,15 +66,21 @@ not-issued s S = zero-by s (S .long) (allZero s) refl (stood s S)
 pub of-standing : (s : List ℕ) → StandsIn s → (n : ℕ) (says : Auction → ℕ) → ofState s n says ≡ says (loaded s)
 of-standing s S n says = rw (eq-eqb (length s) stateLength (S .long), not-issued s S, S .standing)
 
--- and where it gives no number the state stands
+-- and where it gives no number the state stands, and the auction says none
+pub accepted-by : (s : List ℕ) (n : ℕ) → 0 < n → (says : Auction → ℕ) → ofState s n says ≡ 0
+    → (length s ≡ stateLength) × (stands (loaded s) ≡ true) × (says (loaded s) ≡ 0)
+accepted-by s n h says e =
+    let l = granted (eqb (length s) stateLength) _ 1 (omega arith) e in
+    let p = by (allZero s) (l .1) in
+    (eqb-true (length s) stateLength (l .0), p .0, p .1)
+  where
+    by : (t : Bool) → cond t n (cond (stands (loaded s)) (says (loaded s)) 2) ≡ 0 → (stands (loaded s) ≡ true) × (says (loaded s) ≡ 0)
+    by true z = absurd (let x : ⊥ = omega arith in x)
+    by false z = granted (stands (loaded s)) _ 2 (omega arith) z
+
 pub accepted-stands : (s : List ℕ) → Bytes s → (n : ℕ) → 0 < n → (says : Auction → ℕ) → ofState s n says ≡ 0 → StandsIn s
 accepted-stands s B n h says e =
-    let l = granted (eqb (length s) stateLength) _ 1 (omega arith) e in
-    by (allZero s) (eqb-true (length s) stateLength (l .0)) (l .1)
-  where
-    by : (t : Bool) → length s ≡ stateLength → cond t n (cond (stands (loaded s)) (says (loaded s)) 2) ≡ 0 → StandsIn s
-    by true l z = absurd (let x : ⊥ = omega arith in x)
-    by false l z = record { long = l; standing = granted (stands (loaded s)) _ 2 (omega arith) z .0; bits = loaded-bits s B }
+    let p = accepted-by s n h says e in record { long = p .0; standing = p .1; bits = loaded-bits s B }
 
 -- ---- issued
 
@@ -85,31 +91,34 @@ module _ (s : List ℕ) (l : length s ≡ stateLength) (z : allZero s ≡ true) 
 
   -- "all zero as issued": it does not stand, bids are not open, and the auction is not closed
   pub issued-not-standing : (stands (loaded s) ≡ false) × ((c : List ℕ) → fileNumber s c ≡ 3) × (countNumber s ≡ 3)
-      × ((draw : List ℕ) (os : List Chosen) → calculateNumber s draw os ≡ 3) × ((targets caps : List Tranches) → cutbackNumber s targets caps ≡ 3)
-      × ((b : ℕ) → reportNumber s b ≡ 3) × (resultNumber s ≡ 16)
+      × ((draw : List ℕ) (os : List Chosen) → calculateNumber s draw os ≡ 3)
+      × ((draw : List ℕ) (os : List Chosen) (order : List ℕ) → plainNumber s draw os order ≡ 3)
+      × ((targets caps : List Tranches) → cutbackNumber s targets caps ≡ 3) × ((b : ℕ) → reportNumber s b ≡ 3) × (resultNumber s ≡ 16)
   issued-not-standing =
       let e = eq-eqb (length s) stateLength l in
-      (issued-by (stands (loaded s)) refl, λ c. rw (e, z), rw (e, z), λ draw os. rw (e, z), λ targets caps. rw (e, z), λ b. rw (e, z), rw (e, z))
+      (issued-by (stands (loaded s)) refl, λ c. rw (e, z), rw (e, z), λ draw os. rw (e, z), λ draw os order. rw (e, z), λ targets caps. rw (e, z), λ b. rw (e, z), rw (e, z))
 
 -- ---- astray
 
 -- a state of the wrong length is answered 1 by every call
 pub wrong-length : (s : List ℕ) → (length s ≡ stateLength → ⊥) → ((x : Settings) → openNumber s x ≡ 1) × ((c : List ℕ) → fileNumber s c ≡ 1)
     × (countNumber s ≡ 1) × ((draw : List ℕ) (os : List Chosen) → calculateNumber s draw os ≡ 1)
+    × ((draw : List ℕ) (os : List Chosen) (order : List ℕ) → plainNumber s draw os order ≡ 1)
     × ((targets caps : List Tranches) → cutbackNumber s targets caps ≡ 1) × ((b : ℕ) → reportNumber s b ≡ 1) × (resultNumber s ≡ 1)
     × (returnNumber s ≡ 1)
 wrong-length s l =
     let e = ne-eqb (length s) stateLength l in
-    (λ x. rw e, λ c. rw e, rw e, λ draw os. rw e, λ targets caps. rw e, λ b. rw e, rw e, rw e)
+    (λ x. rw e, λ c. rw e, rw e, λ draw os. rw e, λ draw os order. rw e, λ targets caps. rw e, λ b. rw e, rw e, rw e)
 
 -- "state neither issued nor standing": 2, to an opening 17, and to a return nothing
 pub neither : (s : List ℕ) → length s ≡ stateLength → allZero s ≡ false → stands (loaded s) ≡ false
     → ((x : Settings) → openNumber s x ≡ 17) × ((c : List ℕ) → fileNumber s c ≡ 2) × (countNumber s ≡ 2)
-    × ((draw : List ℕ) (os : List Chosen) → calculateNumber s draw os ≡ 2) × ((targets caps : List Tranches) → cutbackNumber s targets caps ≡ 2)
-    × ((b : ℕ) → reportNumber s b ≡ 2) × (resultNumber s ≡ 2) × (returnNumber s ≡ 0)
+    × ((draw : List ℕ) (os : List Chosen) → calculateNumber s draw os ≡ 2)
+    × ((draw : List ℕ) (os : List Chosen) (order : List ℕ) → plainNumber s draw os order ≡ 2)
+    × ((targets caps : List Tranches) → cutbackNumber s targets caps ≡ 2) × ((b : ℕ) → reportNumber s b ≡ 2) × (resultNumber s ≡ 2) × (returnNumber s ≡ 0)
 neither s l z n =
     let e = eq-eqb (length s) stateLength l in
-    (λ x. rw (e, z), λ c. rw (e, z, n), rw (e, z, n), λ draw os. rw (e, z, n), λ targets caps. rw (e, z, n), λ b. rw (e, z, n), rw (e, z, n), rw e)
+    (λ x. rw (e, z), λ c. rw (e, z, n), rw (e, z, n), λ draw os. rw (e, z, n), λ draw os order. rw (e, z, n), λ targets caps. rw (e, z, n), λ b. rw (e, z, n), rw (e, z, n), rw e)
 
 -- ---- refused
 
@@ -125,11 +134,13 @@ calculate-same s c k true h = absurd (let x : ⊥ = omega arith in x)
 calculate-same s c k false h = refl
 
 pub refused-same : (s : List ℕ) → RefusedSame s
-unfolding openCall fileCall calculateCall cutbackCall returnCall writeCard
+unfolding openCall fileCall calculateCall plainCall cutbackCall returnCall writeCard
 refused-same s = record {
   opening = λ x. unless-same (openNumber s x) (stored (opened (setupOf x))) s;
   filing = λ c. unless-same (fileNumber s c) (stored (afterCard c (loaded s))) s;
   calculating = λ draw os. calculate-same s (calculated (loaded s) draw os) (calculateNumber s draw os) (eqb (calculateNumber s draw os) 0);
+  ordering = λ draw os order.
+      calculate-same s (calculatedPlain (loaded s) draw os order) (plainNumber s draw os order) (eqb (plainNumber s draw os order) 0);
   cutting = λ targets caps. unless-same (cutbackNumber s targets caps) (stored (cutBack (loaded s) targets caps)) s;
   returning = unless-same (returnNumber s) (replicate stateLength 0) s;
   writing = λ m b r ls. unless-same (writeNumber (length s) m b r ls) (cardOf m b r ls) s;
@@ -147,6 +158,11 @@ file-refused s c h = rw (ne-eqb (fileNumber s c) 0 h)
 pub calculate-refused : (s draw : List ℕ) (os : List Chosen) → (calculateNumber s draw os ≡ 0 → ⊥) → calculateCall s draw os .bytes ≡ s
 unfolding calculateCall
 calculate-refused s draw os h = rw (ne-eqb (calculateNumber s draw os) 0 h)
+
+pub plain-refused : (s draw : List ℕ) (os : List Chosen) (order : List ℕ) → (plainNumber s draw os order ≡ 0 → ⊥)
+    → plainCall s draw os order .bytes ≡ s
+unfolding plainCall
+plain-refused s draw os order h = rw (ne-eqb (plainNumber s draw os order) 0 h)
 
 pub cutback-refused : (s : List ℕ) (targets caps : List Tranches) → (cutbackNumber s targets caps ≡ 0 → ⊥) → cutbackCall s targets caps .bytes ≡ s
 unfolding cutbackCall

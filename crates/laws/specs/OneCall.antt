@@ -23,7 +23,7 @@ use Rattle.rules.specs.Round.{afterStep2}
 use Rattle.rules.specs.Cutback.{givenFor, revised}
 use Rattle.rules.specs.Layout.{productsFrom, biddersFrom, rowsFrom, recordsFrom, bidsFrom, loaded, productWidth, bidderWidth, rowWidth, recordWidth, lineWidth, stateLength}
 use Rattle.rules.specs.Legal.{isOpen, stands}
-use Rattle.rules.specs.Calls.{openCall, fileCall, calculateCall, cutbackCall, returnCall, writeCall}
+use Rattle.rules.specs.Calls.{openCall, fileCall, calculateCall, plainCall, cutbackCall, returnCall, writeCall}
 
 -- bytes that are a standing state
 pub record StandsIn (s : List ℕ) : Type 0 where
@@ -48,6 +48,8 @@ pub record RefusedSame (s : List ℕ) : Type 0 where
   pub filing : (c : List ℕ) → 0 < answerOf (fileCall s c .answer) .number → fileCall s c .bytes ≡ s
   pub calculating : (draw : List ℕ) (os : List Chosen) → 0 < calculationSaid (calculateCall s draw os .answer) .number
       → calculateCall s draw os .bytes ≡ s
+  pub ordering : (draw : List ℕ) (os : List Chosen) (order : List ℕ) → 0 < calculationSaid (plainCall s draw os order .answer) .number
+      → plainCall s draw os order .bytes ≡ s
   pub cutting : (targets caps : List Tranches) → 0 < answerOf (cutbackCall s targets caps .answer) .number
       → cutbackCall s targets caps .bytes ≡ s
   pub returning : 0 < answerOf (returnCall s .answer) .number → returnCall s .bytes ≡ s

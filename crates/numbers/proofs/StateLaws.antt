@@ -1,13 +1,14 @@
 -- What the number of a call lent a state tells of the state. Assumes nothing.
-use mathlib.Core.Path.{_≡_, refl, sym, _∙_}
+use mathlib.Core.Path.{_≡_, refl, sym, _∙_, subst}
 use mathlib.Core.Bool.{Bool, true, false, cond}
 use mathlib.Core.List.{List}
-use Prim.Native.Nat.{ℕ, _<_}
+use Prim.Native.Nat.{ℕ, zero, suc, _<_}
 use native.Mathlib.Omega.{arith}
 use borrow.Author.Tests.{eqb-true, eq-eqb, ne-eqb}
 use lib.ListN.{length}
 use lib.Dec.{eqb}
 use Rattle.rules.specs.declared.Auction.{Auction}
+use Rattle.rules.specs.Answers.{firstOf}
 use Rattle.rules.specs.Layout.{stateLength, loaded, allZero}
 use Rattle.rules.specs.Legal.{stands}
 use Rattle.rules.specs.Calls.{ofState}
@@ -78,6 +79,18 @@ issued s n w f e z = issued-by (eqb (length s) stateLength) (allZero s) (stands 
 -- what is said of the auction is the call's number
 pub said : (s : List ℕ) → Stood s → (w : ℕ) (f : Auction → ℕ) (n : ℕ) → n ≡ f (loaded s) → n ≡ ofState s w f
 said s S w f n h = h ∙ sym (S .says w f)
+
+-- ---- two numbers, of which the first that applies
+
+first-by : (n next : ℕ) → (n ≡ 0 → ⊥) → n ≡ firstOf n next
+first-by zero next h = absurd (h refl)
+first-by (suc n) next h = refl
+
+pub first-said : (n k next : ℕ) → n ≡ k → (n ≡ 0 → ⊥) → n ≡ firstOf k next
+first-said n k next e h = subst (λ k. n ≡ firstOf k next) e (first-by n next h)
+
+pub next-said : (n k next r : ℕ) → n ≡ k → n ≡ 0 → r ≡ next → r ≡ firstOf k next
+next-said n k next r e z h = subst (λ k. r ≡ firstOf k next) (sym z ∙ e) h
 
 -- ---- the tests one by one
 

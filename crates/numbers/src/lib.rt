@@ -2,13 +2,14 @@
 // none: the call does its work.
 ghost use mathlib.Core.Path.{_≡_};
 ghost use Rattle.rules.specs.Round.{overridesFit};
-ghost use Rattle.rules.specs.Calls.{countNumber, calculateNumber, cutbackNumber, reportNumber, resultNumber};
+ghost use Rattle.rules.specs.Calls.{countNumber, calculateNumber, plainNumber, cutbackNumber, reportNumber, resultNumber};
 ghost use Rattle.numbers.specs.State.{stateNumber};
 use layout::STATE;
 use rules::CLOSED;
 use rules::Chosen;
 use rules::OPEN;
 use rules::Tranches;
+
 // 1, 2, and 3 for an issued state, which has no auction; 0 where the state stands.
 pub fn state_number(s: &[u8]) -> u8
     ensures { λ r. ⌜ r ≡ stateNumber (now (s .entry)) ⌝ }
@@ -73,6 +74,20 @@ pub fn calculate_number(s: &[u8], draw: &[u8], overrides: [Chosen; 8]) -> u8
         return 0;
     }
     19
+}
+
+// Calculate with the plain engine: 1, 2, 3, 14, 19, 23. The order holds "each product once", as the draw each bidder.
+pub fn plain_number(s: &[u8], draw: &[u8], overrides: [Chosen; 8], order: &[u8]) -> u8
+    ensures { λ r. ⌜ r ≡ plainNumber (now (s .entry)) (now (draw .entry)) overrides (now (order .entry)) ⌝ }
+{
+    let n = calculate_number(s, draw, overrides);
+    if n != 0 {
+        return n;
+    }
+    if table::draw_fits(order, book::products(s)) {
+        return 0;
+    }
+    23
 }
 
 // Cutback: 1, 2, 3, 20.

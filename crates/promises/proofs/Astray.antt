@@ -11,8 +11,8 @@ use lib.Dec.{eqb}
 use Rattle.rules.specs.declared.Settings.{Settings}
 use Rattle.rules.specs.Layout.{stateLength}
 use Rattle.rules.specs.Calls.{openNumber, openCall, returnCall}
-use Rattle.laws.proofs.OneCall.{issued-not-standing, open-refused, file-refused, calculate-refused, cutback-refused, return-issued, open-stands}
-use Rattle.rules.specs.Uses.{Call, opens, files, counts, calculates, cuts, reports, results, reads, writes, suggests, after, Sized, Use, called, returned, used, Reached}
+use Rattle.laws.proofs.OneCall.{issued-not-standing, open-refused, file-refused, calculate-refused, plain-refused, cutback-refused, return-issued, open-stands}
+use Rattle.rules.specs.Uses.{Call, opens, files, counts, calculates, calculatesPlain, cuts, reports, results, reads, writes, suggests, after, Sized, Use, called, returned, used, Reached}
 use Rattle.promises.specs.Hires.{Issued, IssuedOrStanding}
 use Rattle.promises.proofs.Steps.{after-stands}
 
@@ -34,8 +34,11 @@ module _ (s : List ℕ) (I : Issued s) where
   issued-after (calculates draw os) h =
       let n = issued-not-standing s (I .long) (I .zero) .3 draw os in
       stays _ (calculate-refused s draw os (λ e. omega arith))
+  issued-after (calculatesPlain draw os order) h =
+      let n = issued-not-standing s (I .long) (I .zero) .4 draw os order in
+      stays _ (plain-refused s draw os order (λ e. omega arith))
   issued-after (cuts targets caps) h =
-      let n = issued-not-standing s (I .long) (I .zero) .4 targets caps in
+      let n = issued-not-standing s (I .long) (I .zero) .5 targets caps in
       stays _ (cutback-refused s targets caps (λ e. omega arith))
   issued-after (reports b) h = inl I
   issued-after results h = inl I

@@ -19,11 +19,10 @@ use Rattle.rules.specs.Settings.{setup, termsOf, setupOf, targetOf}
 use Rattle.rules.specs.Held.{heldIn, recordAt, held}
 use Rattle.rules.specs.Bid.{bidIn, recordOf, bidOn}
 use Rattle.rules.specs.Report.{paidOn, resultOf}
-use Rattle.rules.specs.Round.{calculated}
 use Rattle.rules.specs.Cutback.{cutBack}
 use Rattle.rules.specs.Layout.{loaded}
 use Rattle.rules.specs.Legal.{isOpen}
-use Rattle.rules.specs.Calls.{opened, openNumber, cardNumber, withCard, calculateNumber, closedNumber, resultNumber, resultCall}
+use Rattle.rules.specs.Calls.{opened, openNumber, cardNumber, withCard, calculateCall, closedNumber, resultNumber, resultCall}
 use Rattle.rules.proofs.Sums.{sum-ext}
 use Rattle.rules.proofs.Lists.{clash, list-at}
 use Rattle.rules.proofs.Storing.{loaded-long}
@@ -31,15 +30,16 @@ use Rattle.laws.proofs.Bids.{bids-accepted}
 use Rattle.laws.proofs.Calling.{granted}
 use Rattle.laws.proofs.Round.{round-closes}
 use Rattle.laws.proofs.Cutback.{cut-only}
-use Rattle.rules.specs.Stands.{Stands}
+use Rattle.laws.proofs.Plain.{plain-leaves}
+use Rattle.rules.specs.Stands.{Stands, Long}
 use Rattle.laws.specs.OneCall.{StandsIn}
-use Rattle.laws.proofs.OneCall.{stood, of-standing, open-stands, open-loaded, open-standing, file-refused, calculate-accepts, calculate-loaded, calculate-refused, cutback-accepts, cutback-refused}
-use Rattle.rules.specs.Uses.{Call, opens, files, counts, calculates, cuts, reports, results, reads, writes, suggests, after}
+use Rattle.laws.proofs.OneCall.{stood, of-standing, open-stands, open-loaded, open-standing, file-refused, calculate-accepts, calculate-refused, cutback-accepts, cutback-refused}
+use Rattle.rules.specs.Uses.{Call, opens, files, counts, calculates, calculatesPlain, cuts, reports, results, reads, writes, suggests, after}
 use Rattle.promises.specs.Runs.{run, openedBy, filledPart, Round, roundOf, Cutback, cutbacks, settingsAfter}
 use Rattle.promises.specs.Awards.{Closed, awardOn, paidFor, PaidHighest}
 use Rattle.promises.proofs.Paid.{paid-most, paid-some, paid-none}
 use Rattle.promises.proofs.Offers.{closed-within}
-use Rattle.promises.proofs.Steps.{Step, same, card, round, cut, step, some-none, after-stands, run-later, run-keeps, parts-later, opened-stands, opened-settings, opened-terms, in-use}
+use Rattle.promises.proofs.Steps.{Step, same, card, round, cut, step, after-stands, run-keeps, parts-later, opened-stands, opened-settings, opened-terms, in-use}
 use Rattle.promises.specs.Demands.{ClosingBid}
 
 -- ---- the result of a closed state
@@ -103,12 +103,16 @@ module _ (s : List ℕ) (S : StandsIn s) (c : Closed s) where
 -- ---- where bids are not open, no call changes the state
 
 module _ (s : List ℕ) (S : StandsIn s) (o : isOpen (loaded s) ≡ false) where
+  ended-calculate : (draw : List ℕ) (os : List Chosen) → calculateCall s draw os .bytes ≡ s
+  ended-calculate draw os = calculate-refused s draw os (λ n. clash (calculate-accepts s S draw os n .0) o)
+
   ended-after : (c : Call) → after s c ≡ s
   ended-after (opens x) = open-standing s x S .1
   ended-after (files c) =
       file-refused s c (λ n. clash (granted (isOpen (loaded s)) _ 3 (omega arith) (sym (of-standing s S 3 (cardNumber c)) ∙ n) .0) o)
   ended-after counts = refl
-  ended-after (calculates draw os) = calculate-refused s draw os (λ n. clash (calculate-accepts s S draw os n .0) o)
+  ended-after (calculates draw os) = ended-calculate draw os
+  ended-after (calculatesPlain draw os order) = plain-leaves s draw os order (λ t. t ≡ s) refl (ended-calculate draw os)
   ended-after (cuts targets caps) = cutback-refused s targets caps (λ n. clash (cutback-accepts s S targets caps n .0) o)
   ended-after (reports b) = refl
   ended-after results = refl
@@ -122,33 +126,27 @@ module _ (s : List ℕ) (S : StandsIn s) (o : isOpen (loaded s) ≡ false) where
 
 -- ---- the round that closed
 
--- a call calculates a round, or calculates none
-abbrev Calculates : List ℕ → Call → Type 0
-Calculates s c = (roundOf s c ≡ []) ⊎ ((draw : List ℕ) × (os : List Chosen) × (c ≡ calculates draw os) × (calculateNumber s draw os ≡ 0))
+-- from a to z, which is closed, by the rounds rs: one, and no bidder holds less than it bid in it
+record ClosingRound (a z : Auction) (rs : List Round) : Type 0 where
+  pub draw : List ℕ
+  pub overrides : List Chosen
+  pub accepted : rs ≡ record { auction = a; draw = draw; overrides = overrides } ∷ []
+  pub asked : (b : ℕ) → b < a .terms .bidders
+      → sumUpTo (λ p. bidIn (bidOn a b p)) (a .terms .products) ≤ sumUpTo (λ p. heldIn (recordOf z b p)) (a .terms .products)
 
-calculates-by : (s draw : List ℕ) (os : List Chosen) (t : Bool) → eqb (calculateNumber s draw os) 0 ≡ t → Calculates s (calculates draw os)
-calculates-by s draw os true e = inr (draw, os, refl, eqb-true (calculateNumber s draw os) 0 e)
-calculates-by s draw os false e = inl (rw e)
-
-calculation : (s : List ℕ) (c : Call) → Calculates s c
-calculation s (opens x) = inl refl
-calculation s (files c) = inl refl
-calculation s counts = inl refl
-calculation s (calculates draw os) = calculates-by s draw os (eqb (calculateNumber s draw os) 0) refl
-calculation s (cuts targets caps) = inl refl
-calculation s (reports b) = inl refl
-calculation s results = inl refl
-calculation s (reads c n) = inl refl
-calculation s (writes room n b r ls) = inl refl
-calculation s (suggests bid ratio) = inl refl
-
--- a call that calculates none does not close: a cutback leaves bids open, or stops
-not-closed : {a z : Auction} {rs : List Round} {ks : List Cutback} → Stands a → Step a z rs ks → rs ≡ [] → isOpen a ≡ true → z .phase ≡ closed → ⊥
+-- nothing but a round closes: a cutback leaves bids open, or stops
+closing-round : {a z : Auction} {rs : List Round} {ks : List Cutback} → Stands a → Long a → Step a z rs ks → isOpen a ≡ true → z .phase ≡ closed
+    → ClosingRound a z rs
 unfolding withCard
-not-closed {a} S same e o c = let x = eqb-true (a .phase) 1 o in omega arith
-not-closed {a} S (card b ls) e o c = let x = eqb-true (a .phase) 1 o in omega arith
-not-closed {a} S (round draw os o D O) e _ c = some-none (record { auction = a; draw = draw; overrides = os }) [] e
-not-closed {a} S (cut targets caps o m) e _ c = by (cut-only a targets caps S o m .phase)
+closing-round {a} S L same o c = let x = eqb-true (a .phase) 1 o in absurd (let z : ⊥ = omega arith in z)
+closing-round {a} S L (card b ls) o c = let x = eqb-true (a .phase) 1 o in absurd (let z : ⊥ = omega arith in z)
+closing-round {a} S L (round draw os o D O) _ c = record {
+  draw = draw;
+  overrides = os;
+  accepted = refl;
+  asked = round-closes a draw os S L o D O (bids-accepted a S o) c .asked;
+}
+closing-round {a} S L (cut targets caps o m) _ c = absurd (by (cut-only a targets caps S o m .phase))
   where
     by : (cutBack a targets caps .phase ≡ bidsOpen) ⊎ (cutBack a targets caps .phase ≡ stopped) → ⊥
     by (inl h) = omega arith
@@ -158,11 +156,12 @@ not-closed {a} S (cut targets caps o m) e _ c = by (cut-only a targets caps S o 
 closing-as : (s : List ℕ) (t u : Terms) (cs : List Call) → u .bidders ≡ t .bidders → u .products ≡ t .products → ClosingBid s t cs → ClosingBid s u cs
 closing-as s t u cs hb hp C = record {
   before = C .before;
-  draw = C .draw;
-  overrides = C .overrides;
+  call = C .call;
   rest = C .rest;
   split = C .split;
   bidding = C .bidding;
+  draw = C .draw;
+  overrides = C .overrides;
   accepted = C .accepted;
   closing = C .closing;
   asked = λ b h.
@@ -171,46 +170,45 @@ closing-as s t u cs hb hp C = record {
 }
 
 module _ (s : List ℕ) (S : StandsIn s) (o : isOpen (loaded s) ≡ true) where
-  -- the calculation that closed, with the calls that follow it
-  closing-now : (draw : List ℕ) (os : List Chosen) → calculateNumber s draw os ≡ 0 → (cs : List Call)
-      → isOpen (loaded (after s (calculates draw os))) ≡ false → Closed (run (after s (calculates draw os)) cs)
-      → ClosingBid s (loaded s .terms) (calculates draw os ∷ cs)
-  closing-now draw os n cs e z =
-      let q = after s (calculates draw os) in
-      let Q = after-stands s S (calculates draw os) in
+  -- the call that closed, with those that follow it
+  closing-now : (c : Call) (cs : List Call) → isOpen (loaded (after s c)) ≡ false → Closed (run (after s c) cs)
+      → ClosingBid s (loaded s .terms) (c ∷ cs)
+  closing-now c cs e z =
+      let q = after s c in
+      let Q = after-stands s S c in
       let u = ended-stays q Q e cs in
       let w : Closed q = rw u at z in
-      let l = calculate-loaded s S draw os n in
-      let d = calculate-accepts s S draw os n in
-      let k = round-closes (loaded s) draw os (stood s S) (loaded-long s) (d .0) (d .1) (d .2) (bids-accepted (loaded s) (stood s S) o) (rw l at w) in
-      let t : loaded q .terms ≡ loaded s .terms = ap (λ t. t .terms) (run-later s S (calculates draw os ∷ []) refl .settings) in
+      let K = closing-round (stood s S) (loaded-long s) (step s S c) o w in
+      let t = run-keeps s S (c ∷ []) .terms in
       let m = ap (λ t. t .products) t in
       let b = ap (λ t. t .bidders) t in
       record {
         before = [];
-        draw = draw;
-        overrides = os;
+        call = c;
         rest = cs;
         split = refl;
         bidding = o;
-        accepted = n;
+        draw = K .draw;
+        overrides = K .overrides;
+        accepted = K .accepted;
         closing = w;
         asked = λ i h.
-            let x = sum-ext (λ p. awardOn q i p) (λ p. heldIn (recordOf (calculated (loaded s) draw os .auction) i p)) (loaded s .terms .products)
-            (λ p hp. award-is q Q w i p (omega arith) (omega arith) ∙ ap (λ a. heldIn (recordOf a i p)) l) in
+            let x = sum-ext (λ p. awardOn q i p) (λ p. heldIn (recordOf (loaded q) i p)) (loaded s .terms .products)
+            (λ p hp. award-is q Q w i p (omega arith) (omega arith)) in
             subst (λ y. sumUpTo (λ p. bidIn (bidOn (loaded s) i p)) (loaded s .terms .products) ≤ sumUpTo (λ p. awardOn y i p) (loaded s .terms .products))
-            (sym u) (omega (arith, k .asked i h));
+            (sym u) (omega (arith, K .asked i h));
       }
 
 -- one call more at the beginning
 closing-later : (s : List ℕ) (c : Call) (t : Terms) (cs : List Call) → ClosingBid (after s c) t cs → ClosingBid s t (c ∷ cs)
 closing-later s c t cs C = record {
   before = c ∷ C .before;
-  draw = C .draw;
-  overrides = C .overrides;
+  call = C .call;
   rest = C .rest;
   split = ap (λ l. c ∷ l) (C .split);
   bidding = C .bidding;
+  draw = C .draw;
+  overrides = C .overrides;
   accepted = C .accepted;
   closing = C .closing;
   asked = C .asked;
@@ -221,21 +219,16 @@ closes-by : (s : List ℕ) → StandsIn s → isOpen (loaded s) ≡ true → (cs
 closes-by s S o [] z =
     let x = eqb-true (loaded s .phase) 1 o in
     absurd (let w : ⊥ = omega arith in w)
-closes-by s S o (c ∷ cs) z = by (isOpen (loaded (after s c))) refl (λ o. closes-by (after s c) (after-stands s S c) o cs) (calculation s c)
+closes-by s S o (c ∷ cs) z = by (isOpen (loaded (after s c))) refl (λ o. closes-by (after s c) (after-stands s S c) o cs)
   where
     by : (t : Bool) → isOpen (loaded (after s c)) ≡ t
         → (isOpen (loaded (after s c)) ≡ true → Closed (run (after s c) cs) → ClosingBid (after s c) (loaded (after s c) .terms) cs)
-        → Calculates s c → ClosingBid s (loaded s .terms) (c ∷ cs)
-    by true e f k =
+        → ClosingBid s (loaded s .terms) (c ∷ cs)
+    by true e f =
         let K = run-keeps s S (c ∷ []) in
         closing-later s c (loaded s .terms) cs
         (closing-as (after s c) (loaded (after s c) .terms) (loaded s .terms) cs (sym (ap (λ t. t .bidders) (K .terms))) (sym (ap (λ t. t .products) (K .terms))) (f e z))
-    by false e f (inl k) =
-        absurd (not-closed (stood s S) (step s S c) k o (subst Closed (ended-stays (after s c) (after-stands s S c) e cs) z))
-    by false e f (inr k) =
-        subst (λ d. ClosingBid s (loaded s .terms) (d ∷ cs)) (sym (k .2))
-        (closing-now s S o (k .0) (k .1) (k .3) cs (subst (λ d. isOpen (loaded (after s d)) ≡ false) (k .2) e)
-        (subst (λ d. Closed (run (after s d) cs)) (k .2) z))
+    by false e f = closing-now s S o c cs e z
 
 -- ---- from an opening
 

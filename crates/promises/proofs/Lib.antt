@@ -13,3 +13,4 @@ pub mod Saying
 pub mod Overridden
 pub mod Entry
 pub mod Entered
+pub mod Rank

@@ -31,8 +31,8 @@ use Rattle.rules.specs.Round.{overrideFor, overridesFit, afterStep2, afterStep4
 use Rattle.rules.specs.Report.{goingOn, reportOn}
 use Rattle.rules.specs.Layout.{stateLength, loaded, allZero}
 use Rattle.rules.specs.Legal.{isOpen, stands}
-use Rattle.rules.specs.Calls.{openNumber, fileNumber, fileCall, withCard, calculateNumber, calculationDone, calculateCall, cutbackNumber, cutbackCall, reportNumber, reportCall}
-use Rattle.rules.specs.Uses.{Call, opens, files, counts, calculates, cuts, reports, results, reads, writes, suggests, after}
+use Rattle.rules.specs.Calls.{openNumber, fileNumber, fileCall, withCard, calculateNumber, calculationDone, calculateCall, plainNumber, plainCall, cutbackNumber, cutbackCall, reportNumber, reportCall}
+use Rattle.rules.specs.Uses.{Call, opens, files, counts, calculates, calculatesPlain, cuts, reports, results, reads, writes, suggests, after}
 use Rattle.rules.proofs.Sums.{and-left, and-right}
 use Rattle.rules.proofs.Lists.{clash, all-give, list-at, list-ext}
 use Rattle.rules.proofs.Signed.{above-is}
@@ -42,7 +42,8 @@ use Rattle.laws.specs.OneCall.{StandsIn, PriceBy}
 use Rattle.laws.proofs.Calling.{granted}
 use Rattle.laws.proofs.Opening.{opened-unmarked}
 use Rattle.laws.proofs.Prices.{mark-none}
-use Rattle.laws.proofs.OneCall.{stood, open-stands, open-loaded, open-standing, file-loaded, file-refused, calculate-refused, calculate-by-whom, cutback-only, cutback-refused}
+use Rattle.laws.proofs.OneCall.{stood, open-stands, open-loaded, open-standing, file-loaded, file-refused, calculate-refused, plain-refused, calculate-by-whom, cutback-only, cutback-refused}
+use Rattle.laws.proofs.Plain.{plain-accepts, plain-call}
 use Rattle.promises.specs.Runs.{run, openedBy}
 use Rattle.promises.specs.Marks.{usesManagers, managersAfter, managersFrom, byManagers, reportedMark}
 use Rattle.promises.specs.Earlier.{priceByTable, restedEarlier, onwardEarlier, settledEarlier, calculatedEarlier, numberEarlier, callEarlier}
@@ -120,6 +121,14 @@ module _ (s : List ℕ) (S : StandsIn s) (p : ℕ) (h : p < loaded s .terms .pro
   calculate-marked draw os true e = calculate-marks s S draw os (eqb-true (calculateNumber s draw os) 0 e) p h
   calculate-marked draw os false e = ap isMarked (calculate-refused s draw os (eqb-false (calculateNumber s draw os) 0 e))
 
+  plain-marked : (draw : List ℕ) (os : List Chosen) (order : List ℕ) (t : Bool) → eqb (plainNumber s draw os order) 0 ≡ t
+      → isMarked (plainCall s draw os order .bytes)
+      ≡ cond t (usesManagers (loaded (plainCall s draw os order .bytes)) (overrideFor os p) p) (isMarked s)
+  plain-marked draw os order true e =
+      let q = plain-accepts s draw os order (eqb-true (plainNumber s draw os order) 0 e) in
+      rw (plain-call s draw os order (q .1)) (calculate-marks s S draw os (q .0) p h)
+  plain-marked draw os order false e = ap isMarked (plain-refused s draw os order (eqb-false (plainNumber s draw os order) 0 e))
+
   cutback-marked : (targets caps : List Tranches) (t : Bool) → eqb (cutbackNumber s targets caps) 0 ≡ t
       → isMarked (cutbackCall s targets caps .bytes) ≡ cond t false (isMarked s)
   cutback-marked targets caps true e =
@@ -131,6 +140,7 @@ module _ (s : List ℕ) (S : StandsIn s) (p : ℕ) (h : p < loaded s .terms .pro
   after-marked (files c) = file-marked c (eqb (fileNumber s c) 0) refl
   after-marked counts = refl
   after-marked (calculates draw os) = calculate-marked draw os (eqb (calculateNumber s draw os) 0) refl
+  after-marked (calculatesPlain draw os order) = plain-marked draw os order (eqb (plainNumber s draw os order) 0) refl
   after-marked (cuts targets caps) = cutback-marked targets caps (eqb (cutbackNumber s targets caps) 0) refl
   after-marked (reports b) = refl
   after-marked results = refl

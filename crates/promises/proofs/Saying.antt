@@ -18,12 +18,12 @@ use Rattle.rules.specs.declared.Volume.the-variants as volume
 use Rattle.rules.specs.Answers.{said, outcome, answerFrom, answerOf, cardSaid, countSaid, calculationSaid, reportSaid, awardSaid, volumeSaid, phaseNumber, phaseOf}
 use Rattle.rules.specs.Held.{freeOf, excess}
 use Rattle.rules.specs.Report.{rangeOf, reportOn, reportRefused, resultOf, resultRefused}
-use Rattle.rules.specs.Round.{calculated}
+use Rattle.rules.specs.Round.{calculated, calculatedPlain}
 use Rattle.rules.specs.Cutback.{suggestedVolume, suggestedNumber}
 use Rattle.rules.specs.Layout.{loaded}
 use Rattle.rules.specs.Bits.{fieldAt}
 use Rattle.rules.specs.Card.{noLine, cardLength, countFits, filled, readLines, readRefused, bidOf, readNumber, readCard, writeNumber, writeCard}
-use Rattle.rules.specs.Calls.{openNumber, openCall, fileNumber, fileCall, countNumber, countCall, toFile, calculationDone, calculateNumber, calculateCall, cutbackNumber, cutbackCall, reportNumber, reportCall, resultNumber, resultCall, returnNumber, returnCall, readCall, writeCall, suggestedCall}
+use Rattle.rules.specs.Calls.{openNumber, openCall, fileNumber, fileCall, countNumber, countCall, toFile, calculationDone, calculateNumber, calculateCall, plainNumber, plainCall, cutbackNumber, cutbackCall, reportNumber, reportCall, resultNumber, resultCall, returnNumber, returnCall, readCall, writeCall, suggestedCall}
 use lib.ListN.{length, replicate}
 
 -- a number said with nothing beside it
@@ -96,6 +96,15 @@ pub calculate-said : (s draw : List ℕ) (os : List Chosen)
     (said (calculateNumber s draw os) [])
 unfolding calculateCall
 calculate-said s draw os = calculate-by (eqb (calculateNumber s draw os) 0) (calculateNumber s draw os) (calculated (loaded s) draw os) s
+
+pub plain-said : (s draw : List ℕ) (os : List Chosen) (order : List ℕ)
+    → calculationSaid (plainCall s draw os order .answer)
+    ≡ cond (eqb (plainNumber s draw os order) 0)
+    (said 0 (calculatedPlain (loaded s) draw os order .kept ∷ calculatedPlain (loaded s) draw os order .outbid ∷ []))
+    (said (plainNumber s draw os order) [])
+unfolding plainCall
+plain-said s draw os order =
+    calculate-by (eqb (plainNumber s draw os order) 0) (plainNumber s draw os order) (calculatedPlain (loaded s) draw os order) s
 
 -- report says f, the phase and the range
 report-by : (t : Bool) (n : ℕ) (r : Reported)

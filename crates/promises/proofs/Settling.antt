@@ -22,7 +22,7 @@ use Rattle.rules.specs.declared.Volume.{Volume}
 use Rattle.rules.specs.Answers.{Leaves, Gives, outcome, said, calculationSaid}
 use Rattle.rules.specs.Round.{calculated}
 use Rattle.rules.specs.Layout.{loaded}
-use Rattle.rules.specs.Calls.{openCall, fileCall, countCall, calculateNumber, calculationDone, calculateCall, cutbackCall, reportCall, resultCall, returnCall, readCall, writeCall, suggestedCall}
+use Rattle.rules.specs.Calls.{openCall, fileCall, countCall, calculateNumber, calculationDone, calculateCall, plainCall, cutbackCall, reportCall, resultCall, returnCall, readCall, writeCall, suggestedCall}
 use Rattle.rules.proofs.Storing.{loaded-long}
 use Rattle.laws.proofs.Bids.{bids-accepted}
 use Rattle.laws.specs.Counted.{keptWhereTicked, CountsOutbid}
@@ -48,6 +48,10 @@ unique-count s = gives-one (countCall s)
 pub unique-calculate : (s draw : List ℕ) (os : List Chosen) (o k : Calculation) (t u : List ℕ)
     → Leaves (calculateCall s draw os) o t → Leaves (calculateCall s draw os) k u → (o ≡ k) × (t ≡ u)
 unique-calculate s draw os = leaves-one (calculateCall s draw os)
+
+pub unique-plain : (s draw : List ℕ) (os : List Chosen) (order : List ℕ) (o k : Calculation) (t u : List ℕ)
+    → Leaves (plainCall s draw os order) o t → Leaves (plainCall s draw os order) k u → (o ≡ k) × (t ≡ u)
+unique-plain s draw os order = leaves-one (plainCall s draw os order)
 
 pub unique-cutback : (s : List ℕ) (targets caps : List Tranches) (o k : Answer) (t u : List ℕ)
     → Leaves (cutbackCall s targets caps) o t → Leaves (cutbackCall s targets caps) k u → (o ≡ k) × (t ≡ u)

@@ -4,7 +4,7 @@ use mathlib.Core.Bool.{Bool, true, false, cond}
 use mathlib.Core.List.{List, [], _∷_, _++_}
 use Prim.Native.Nat.{ℕ, _≤_, _<_}
 use native.Mathlib.Omega.{arith}
-use borrow.Author.Tests.{eqb-true, eqb-false}
+use borrow.Author.Tests.{eqb-true, eqb-false, eq-eqb}
 use lib.ListN.{length}
 use lib.Dec.{eqb}
 use Rattle.rules.specs.declared.Tranches.{Tranches}
@@ -20,7 +20,7 @@ use Rattle.rules.specs.Round.{drawFits, overridesFit, calculated}
 use Rattle.rules.specs.Cutback.{mayCut, revised, cutBack}
 use Rattle.rules.specs.Layout.{loaded}
 use Rattle.rules.specs.Legal.{isOpen}
-use Rattle.rules.specs.Calls.{openNumber, fileNumber, fileCall, withCard, calculateNumber, calculateCall, cutbackNumber, cutbackCall}
+use Rattle.rules.specs.Calls.{openNumber, fileNumber, fileCall, withCard, calculateNumber, calculateCall, plainNumber, plainCall, cutbackNumber, cutbackCall}
 use Rattle.rules.specs.Stands.{Stands, Long}
 use Rattle.rules.proofs.Storing.{loaded-long}
 use Rattle.laws.proofs.Bids.{bids-accepted}
@@ -28,8 +28,9 @@ use Rattle.laws.proofs.Round.{round-setup, round-filled, round-prices}
 use Rattle.rules.proofs.Reduced.{revised-target, revised-cap, revised-start, cut-numbers}
 use Rattle.laws.proofs.Cutback.{cut-only}
 use Rattle.laws.specs.OneCall.{StandsIn}
-use Rattle.laws.proofs.OneCall.{stood, open-stands, open-setup, open-standing, file-loaded, file-refused, file-stands, calculate-accepts, calculate-loaded, calculate-refused, calculate-stands, cutback-accepts, cutback-loaded, cutback-refused, cutback-stands}
-use Rattle.rules.specs.Uses.{Call, opens, files, counts, calculates, cuts, reports, results, reads, writes, suggests, after}
+use Rattle.laws.proofs.OneCall.{stood, open-stands, open-setup, open-standing, file-loaded, file-refused, file-stands, calculate-accepts, calculate-loaded, calculate-refused, calculate-stands, plain-refused, cutback-accepts, cutback-loaded, cutback-refused, cutback-stands}
+use Rattle.laws.proofs.Plain.{plain-accepts, plain-call, plain-leaves}
+use Rattle.rules.specs.Uses.{Call, opens, files, counts, calculates, calculatesPlain, cuts, reports, results, reads, writes, suggests, after}
 use Rattle.promises.specs.Runs.{run, openedBy, filledPart, Round, roundOf, Cutback, cutbackOf, cutbacks, revisedBy, settingsAfter}
 use Rattle.promises.specs.Demands.{KeptBut}
 
@@ -62,6 +63,13 @@ module _ (s : List ℕ) (S : StandsIn s) where
       rw (calculate-loaded s S draw os n) (round draw os (o .0) (o .1) (o .2))
   calculate-step draw os false e = stays _ (calculate-refused s draw os (eqb-false (calculateNumber s draw os) 0 e))
 
+  plain-step : (draw : List ℕ) (os : List Chosen) (order : List ℕ) (t : Bool) → eqb (plainNumber s draw os order) 0 ≡ t
+      → Step (loaded s) (loaded (plainCall s draw os order .bytes)) (cond t (record { auction = loaded s; draw = draw; overrides = os } ∷ []) []) []
+  plain-step draw os order true e =
+      let p = plain-accepts s draw os order (eqb-true (plainNumber s draw os order) 0 e) in
+      rw (plain-call s draw os order (p .1)) (calculate-step draw os true (eq-eqb (calculateNumber s draw os) 0 (p .0)))
+  plain-step draw os order false e = stays _ (plain-refused s draw os order (eqb-false (plainNumber s draw os order) 0 e))
+
   cutback-step : (targets caps : List Tranches) (t : Bool) → eqb (cutbackNumber s targets caps) 0 ≡ t
       → Step (loaded s) (loaded (cutbackCall s targets caps .bytes)) [] (cond t (record { targets = targets; caps = caps } ∷ []) [])
   cutback-step targets caps true e =
@@ -75,6 +83,7 @@ module _ (s : List ℕ) (S : StandsIn s) where
   step (files c) = file-step c (eqb (fileNumber s c) 0) refl
   step counts = same
   step (calculates draw os) = calculate-step draw os (eqb (calculateNumber s draw os) 0) refl
+  step (calculatesPlain draw os order) = plain-step draw os order (eqb (plainNumber s draw os order) 0) refl
   step (cuts targets caps) = cutback-step targets caps (eqb (cutbackNumber s targets caps) 0) refl
   step (reports b) = same
   step results = same
@@ -88,6 +97,7 @@ module _ (s : List ℕ) (S : StandsIn s) where
   after-stands (files c) = file-stands s S c
   after-stands counts = S
   after-stands (calculates draw os) = calculate-stands s S draw os
+  after-stands (calculatesPlain draw os order) = plain-leaves s draw os order StandsIn S (calculate-stands s S draw os)
   after-stands (cuts targets caps) = cutback-stands s S targets caps
   after-stands (reports b) = S
   after-stands results = S

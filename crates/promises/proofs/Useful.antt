@@ -17,9 +17,10 @@ use Rattle.rules.specs.declared.Product.{Product}
 use Rattle.rules.specs.declared.Unit.the-variants as unit
 use Rattle.rules.specs.declared.Auction.{Auction}
 use Rattle.rules.specs.declared.Outbid.{Outbid}
+use Rattle.rules.specs.declared.Calculation.{Calculation}
 use Rattle.rules.specs.Count.{allUpTo, from}
 use Rattle.rules.specs.Units.{tranches, points, quote}
-use Rattle.rules.specs.Answers.{said, answerOf, cardSaid, countSaid, calculationSaid, reportSaid, awardSaid, volumeSaid, closed, stopped}
+use Rattle.rules.specs.Answers.{Outcome, said, answerOf, cardSaid, countSaid, calculationSaid, reportSaid, awardSaid, volumeSaid, closed, stopped}
 use Rattle.rules.specs.Parts.{row, noRow}
 use Rattle.rules.specs.Settings.{setup, noProduct, settingsFit, setupOf, targetOf, capOf}
 use Rattle.rules.specs.Bits.{bitAt, fieldAt, setIn, setBit, putField}
@@ -34,11 +35,12 @@ use Rattle.rules.specs.Cutback.{givenFor, revised}
 use Rattle.rules.specs.Report.{reportOn, resultOf}
 use Rattle.rules.specs.Layout.{stateLength, loaded, allZero}
 use Rattle.rules.specs.Legal.{isOpen}
-use Rattle.rules.specs.Calls.{opened, openNumber, openCall, ofState, cardNumber, withCard, afterCard, fileCall, openNumberOf, countCall, roundNumber, calculateNumber, calculateCall, cutNumber, cutbackNumber, cutbackCall, bidderNumber, reportCall, closedNumber, resultCall, returnCall, readCall, writeCall, suggestedCall}
+use Rattle.rules.specs.Calls.{opened, openNumber, openCall, ofState, cardNumber, withCard, afterCard, fileCall, openNumberOf, countCall, roundNumber, calculateNumber, calculateCall, plainNumber, plainCall, cutNumber, cutbackNumber, cutbackCall, bidderNumber, reportCall, closedNumber, resultCall, returnCall, readCall, writeCall, suggestedCall}
 use Rattle.rules.proofs.Lists.{clash}
 use Rattle.laws.proofs.Calling.{granted}
 use Rattle.laws.specs.OneCall.{StandsIn}
 use Rattle.laws.proofs.OneCall.{not-issued, of-standing, zeros, open-stands, open-loaded, open-standing, file-loaded, file-stands, calculate-accepts, calculate-loaded, calculate-stands, cutback-only, return-issued}
+use Rattle.laws.proofs.Plain.{plain-accepts, plain-call}
 use Rattle.rules.proofs.Reduced.{revised-target, revised-cap}
 use Rattle.promises.specs.Runs.{openedBy}
 use Rattle.promises.specs.Awards.{Closed}
@@ -71,6 +73,13 @@ round-other a draw os = settled-other a os (afterStep4 a draw (afterStep2 a draw
 pub calculate-writes : (s : List ℕ) → StandsIn s → (draw : List ℕ) (os : List Chosen) → calculateNumber s draw os ≡ 0 → calculateCall s draw os .bytes ≡ s → ⊥
 calculate-writes s S draw os n q =
     round-other (loaded s) draw os (calculate-accepts s S draw os n .0) (sym (calculate-loaded s S draw os n) ∙ ap loaded q)
+
+-- and so in any order of the products
+pub plain-writes : (s : List ℕ) → StandsIn s → (draw : List ℕ) (os : List Chosen) (order : List ℕ) → plainNumber s draw os order ≡ 0
+    → plainCall s draw os order .bytes ≡ s → ⊥
+plain-writes s S draw os order n q =
+    let p = plain-accepts s draw os order n in
+    calculate-writes s S draw os (p .0) (sym (ap (λ (o : Outcome Calculation). o .bytes) (plain-call s draw os order (p .1))) ∙ q)
 
 -- a cutback accepted that revises a target or a cap changes the state
 pub cutback-writes : (s : List ℕ) → StandsIn s → (targets caps : List Tranches) → cutbackNumber s targets caps ≡ 0
@@ -165,6 +174,16 @@ pub override-answers : (calculationSaid (calculateCall openBox draw012 byZero .a
     × (calculationSaid (calculateCall openBox [] byZero .answer) ≡ said 14 [])
 unfolding calculateCall settingS draw012 byZero opened setupOf allUpTo from
 override-answers = (rw (box-says 3 (roundNumber draw012 byZero)), rw (box-says 3 (roundNumber [] byZero)))
+
+pub plain-answers : (calculationSaid (plainCall openBox draw012 [] (1 ∷ 0 ∷ []) .answer) ≡ said 0 (0 ∷ 0 ∷ []))
+    × (calculationSaid (plainCall openBox draw012 [] (1 ∷ 1 ∷ []) .answer) ≡ said 23 [])
+    × (calculationSaid (plainCall openBox draw012 byZero (1 ∷ 1 ∷ []) .answer) ≡ said 19 [])
+unfolding plainCall settingS draw012 byZero opened setupOf allUpTo from
+plain-answers = (
+  ap (λ (o : Outcome Calculation). calculationSaid (o .answer)) (plain-call openBox draw012 [] (1 ∷ 0 ∷ []) (rw open-auction)) ∙ calculate-answers .0,
+  rw (box-says 3 (roundNumber draw012 []), open-auction),
+  rw (box-says 3 (roundNumber draw012 byZero)),
+)
 
 -- and so of the other calls: the box as opened, and as a round without a card closes it
 abbrev pub closedBox : List ℕ

@@ -1,7 +1,7 @@
 -- What demands 1 and 3 say of settings, closing bids and awards. Assumes nothing.
 use mathlib.Core.Path.{_≡_}
 use mathlib.Core.Bool.{true}
-use mathlib.Core.List.{List, _∷_, _++_}
+use mathlib.Core.List.{List, [], _∷_, _++_}
 use Prim.Native.Nat.{ℕ, _+_, _≤_, _<_}
 use Rattle.rules.specs.declared.Lot.{Lot}
 use Rattle.rules.specs.declared.Chosen.{Chosen}
@@ -14,9 +14,8 @@ use Rattle.rules.specs.Held.{goingIn, deniedIn, retainedIn}
 use Rattle.rules.specs.Bid.{bidIn, recordOf, bidOn}
 use Rattle.rules.specs.Layout.{loaded}
 use Rattle.rules.specs.Legal.{isOpen}
-use Rattle.rules.specs.Calls.{calculateNumber}
-use Rattle.rules.specs.Uses.{Call, calculates, after}
-use Rattle.promises.specs.Runs.{run, Round}
+use Rattle.rules.specs.Uses.{Call, after}
+use Rattle.promises.specs.Runs.{run, Round, roundOf}
 use Rattle.promises.specs.Offered.{onOffer, inRounds, givenUp, withdrawnIn}
 use Rattle.promises.specs.Awards.{Closed, awardOn, paidFor}
 
@@ -33,13 +32,15 @@ pub record KeptBut (t u : Setup) : Type 0 where
 -- more in total than it is awarded
 pub record ClosingBid (s : List ℕ) (t : Terms) (cs : List Call) : Type 0 where
   pub before : List Call
+  pub call : Call
+  pub rest : List Call
+  pub split : cs ≡ before ++ (call ∷ rest)
+  pub bidding : isOpen (loaded (run s before)) ≡ true
+  -- it is a calculation, by either engine, and not refused
   pub draw : List ℕ
   pub overrides : List Chosen
-  pub rest : List Call
-  pub split : cs ≡ before ++ (calculates draw overrides ∷ rest)
-  pub bidding : isOpen (loaded (run s before)) ≡ true
-  pub accepted : calculateNumber (run s before) draw overrides ≡ 0
-  pub closing : Closed (after (run s before) (calculates draw overrides))
+  pub accepted : roundOf (run s before) call ≡ record { auction = loaded (run s before); draw = draw; overrides = overrides } ∷ []
+  pub closing : Closed (after (run s before) call)
   pub asked : (b : ℕ) → b < t .bidders
       → sumUpTo (λ p. bidIn (bidOn (loaded (run s before)) b p)) (t .products) ≤ sumUpTo (λ p. awardOn (run s cs) b p) (t .products)
 

@@ -6,3 +6,4 @@ pub mod Demands
 pub mod Marks
 pub mod Earlier
 pub mod Entry
+pub mod Rank

@@ -13,8 +13,8 @@ use Rattle.rules.specs.Price.{isGiven}
 use Rattle.rules.specs.Round.{overrideFor}
 use Rattle.rules.specs.Layout.{loaded}
 use Rattle.rules.specs.Legal.{isOpen}
-use Rattle.rules.specs.Calls.{calculateNumber, cutbackNumber, reportCall}
-use Rattle.rules.specs.Uses.{Call, opens, files, counts, calculates, cuts, reports, results, reads, writes, suggests, after}
+use Rattle.rules.specs.Calls.{calculateNumber, plainNumber, cutbackNumber, reportCall}
+use Rattle.rules.specs.Uses.{Call, opens, files, counts, calculates, calculatesPlain, cuts, reports, results, reads, writes, suggests, after}
 
 -- the working-out of product p's price in a calculation that leaves z: by the manager's decrement where one was given, the auction goes on
 -- and the product is above target
@@ -29,6 +29,8 @@ managersAfter s (files c) p t = t
 managersAfter s counts p t = t
 managersAfter s (calculates draw os) p t =
     cond (eqb (calculateNumber s draw os) 0) (usesManagers (loaded (after s (calculates draw os))) (overrideFor os p) p) t
+managersAfter s (calculatesPlain draw os order) p t =
+    cond (eqb (plainNumber s draw os order) 0) (usesManagers (loaded (after s (calculatesPlain draw os order))) (overrideFor os p) p) t
 managersAfter s (cuts targets caps) p t = cond (eqb (cutbackNumber s targets caps) 0) false t
 managersAfter s (reports b) p t = t
 managersAfter s results p t = t

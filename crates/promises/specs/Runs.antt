@@ -12,8 +12,8 @@ use Rattle.rules.specs.Settings.{setup, setupOf, targetOf}
 use Rattle.rules.specs.Held.{held}
 use Rattle.rules.specs.Layout.{loaded}
 use Rattle.rules.specs.Cutback.{revised}
-use Rattle.rules.specs.Calls.{openCall, calculateNumber, cutbackNumber}
-use Rattle.rules.specs.Uses.{Call, opens, files, counts, calculates, cuts, reports, results, reads, writes, suggests, after}
+use Rattle.rules.specs.Calls.{openCall, calculateNumber, plainNumber, cutbackNumber}
+use Rattle.rules.specs.Uses.{Call, opens, files, counts, calculates, calculatesPlain, cuts, reports, results, reads, writes, suggests, after}
 
 -- "over any calls short of a return": accepted or refused, in any order
 abbrev pub run : List ℕ → List Call → List ℕ
@@ -36,12 +36,17 @@ pub record Round : Type 0 where
   pub draw : List ℕ
   pub overrides : List Chosen
 
+-- one where a calculation has no number
+abbrev pub roundUnless : ℕ → List ℕ → List ℕ → List Chosen → List Round
+roundUnless n s draw os = cond (eqb n 0) (record { auction = loaded s; draw = draw; overrides = os } ∷ []) []
+
+-- by which engine does not matter
 abbrev pub roundOf : List ℕ → Call → List Round
 roundOf s (opens x) = []
 roundOf s (files c) = []
 roundOf s counts = []
-roundOf s (calculates draw os) =
-    cond (eqb (calculateNumber s draw os) 0) (record { auction = loaded s; draw = draw; overrides = os } ∷ []) []
+roundOf s (calculates draw os) = roundUnless (calculateNumber s draw os) s draw os
+roundOf s (calculatesPlain draw os order) = roundUnless (plainNumber s draw os order) s draw os
 roundOf s (cuts targets caps) = []
 roundOf s (reports b) = []
 roundOf s results = []
@@ -66,6 +71,7 @@ cutbackOf s (opens x) = []
 cutbackOf s (files c) = []
 cutbackOf s counts = []
 cutbackOf s (calculates draw os) = []
+cutbackOf s (calculatesPlain draw os order) = []
 cutbackOf s (cuts targets caps) = cond (eqb (cutbackNumber s targets caps) 0) (record { targets = targets; caps = caps } ∷ []) []
 cutbackOf s (reports b) = []
 cutbackOf s results = []

@@ -1,4 +1,4 @@
-// The draw order and the overrides: 14 and 19.
+// The draw order, the overrides and the order of the products: 14, 19 and 23.
 use crate::last_of;
 use crate::of_phase;
 use crate::put_outside;
@@ -21,31 +21,51 @@ fn put_lead(out: &mut [u8; ANSWER], at: usize, begun: bool) -> usize {
     put(out, at, b": ")
 }
 
-// The first entry that is no bidder.
-fn put_unknown(out: &mut [u8; ANSWER], at: usize, draw: &[u8], bidders: usize) -> usize {
+// One of those that an order is of, by its form: `bidder &` or `product %`.
+fn put_one(out: &mut [u8; ANSWER], at: usize, form: &[u8], n: u64) -> usize {
+    let numbers = [n];
+    put_form(out, at, form, &numbers)
+}
+
+// The first entry that is none of them.
+fn put_unknown(
+    out: &mut [u8; ANSWER],
+    at: usize,
+    order: &[u8],
+    count: usize,
+    form: &[u8],
+) -> usize {
     let mut i: usize = 0;
-    while i < draw.len() {
-        if !is_known(draw[i], bidders) {
-            let numbers = [wide(draw[i])];
-            return put_form(out, at, b": bidder & is unknown", &numbers);
+    while i < order.len() {
+        if !is_known(order[i], count) {
+            let a = put_lead(out, at, false);
+            let b = put_one(out, a, form, wide(order[i]));
+            return put(out, b, b" is unknown");
         }
         i += 1;
     }
     at
 }
 
-// The first bidder that stands more than once.
-fn put_twice(out: &mut [u8; ANSWER], at: usize, draw: &[u8], bidders: usize, begun: bool) -> usize {
+// The first that stands more than once.
+fn put_twice(
+    out: &mut [u8; ANSWER],
+    at: usize,
+    order: &[u8],
+    count: usize,
+    form: &[u8],
+    begun: bool,
+) -> usize {
     let mut b: usize = 0;
     while b < 32 {
-        if bidders <= b {
+        if count <= b {
             return at;
         }
-        let times = times_drawn(draw, b);
+        let times = times_drawn(order, b);
         if 1 < times {
             let a = put_lead(out, at, begun);
-            let numbers = [b as u64, times as u64];
-            return put_form(out, a, b"bidder & stands # times", &numbers);
+            let to = put_one(out, a, form, b as u64);
+            return put_one(out, to, b" stands # times", times as u64);
         }
         b += 1;
     }
@@ -56,34 +76,64 @@ fn put_twice(out: &mut [u8; ANSWER], at: usize, draw: &[u8], bidders: usize, beg
 fn put_missing(
     out: &mut [u8; ANSWER],
     at: usize,
-    draw: &[u8],
-    bidders: usize,
+    order: &[u8],
+    count: usize,
+    form: &[u8],
     begun: bool,
 ) -> usize {
     let mut b: usize = 0;
     while b < 32 {
-        if bidders <= b {
+        if count <= b {
             return at;
         }
-        if !is_drawn(draw, draw.len(), b) {
+        if !is_drawn(order, order.len(), b) {
             let a = put_lead(out, at, begun);
-            let numbers = [b as u64];
-            return put_form(out, a, b"bidder & is missing", &numbers);
+            let to = put_one(out, a, form, b as u64);
+            return put(out, to, b" is missing");
         }
         b += 1;
     }
     at
 }
 
-fn put_draw(out: &mut [u8; ANSWER], at: usize, draw: &[u8], bidders: usize) -> usize {
-    let a = put_unknown(out, at, draw, bidders);
-    let b = put_twice(out, a, draw, bidders, a != at);
-    let c = put_missing(out, b, draw, bidders, b != at);
+// What is wrong with an order of so many; the last form says which they are.
+fn put_order(
+    out: &mut [u8; ANSWER],
+    at: usize,
+    order: &[u8],
+    count: usize,
+    form: &[u8],
+    all: &[u8],
+) -> usize {
+    let a = put_unknown(out, at, order, count, form);
+    let b = put_twice(out, a, order, count, form, a != at);
+    let c = put_missing(out, b, order, count, form, b != at);
     if c == at {
         return at;
     }
-    let numbers = [last_of(bidders)];
-    put_form(out, c, b"; the bidders are 0 to #", &numbers)
+    put_one(out, c, all, last_of(count))
+}
+
+fn put_draw(out: &mut [u8; ANSWER], at: usize, draw: &[u8], bidders: usize) -> usize {
+    put_order(
+        out,
+        at,
+        draw,
+        bidders,
+        b"bidder &",
+        b"; the bidders are 0 to #",
+    )
+}
+
+fn put_products(out: &mut [u8; ANSWER], at: usize, order: &[u8], products: usize) -> usize {
+    put_order(
+        out,
+        at,
+        order,
+        products,
+        b"product %",
+        b"; the products are 0 to #",
+    )
 }
 
 fn put_override(out: &mut [u8; ANSWER], at: usize, p: usize, given: Override) -> usize {
@@ -122,10 +172,12 @@ pub fn of_round(
     s: &[u8; STATE],
     draw: &[u8],
     overrides: [Chosen; 8],
+    order: &[u8],
 ) -> usize {
     match n {
         14 => put_draw(out, at, draw, book::bidders(s)),
         19 => put_overrides(out, at, overrides),
+        23 => put_products(out, at, order, book::products(s)),
         _ => of_phase(out, at, n, s),
     }
 }

@@ -1,11 +1,11 @@
 -- The steps see of the ticks and targets only those of the products. Assumes nothing.
 use mathlib.Core.Path.{_≡_, refl, _∙_, ap, ap₂}
-use mathlib.Core.Bool.{Bool, _&&_, not}
+use mathlib.Core.Bool.{Bool, _&&_, not, cond}
 use mathlib.Core.List.{List}
-use Prim.Native.Nat.{ℕ, zero, suc, _+_, _%_, _≤_, _<_}
+use Prim.Native.Nat.{ℕ, zero, suc, _+_, _-_, _%_, _≤_, _<_}
 use native.Mathlib.Omega.{arith}
 use native.Mathlib.Nat.{mod-lt}
-use lib.Dec.{ltb}
+use lib.Dec.{eqb, ltb}
 use Rattle.rules.specs.declared.Pick.{Pick}
 use Rattle.rules.specs.declared.Pick.the-variants.{At, Nobody}
 use Rattle.rules.specs.declared.Place.{Place}
@@ -15,6 +15,7 @@ use Rattle.rules.specs.Count.{firstUpTo}
 use Rattle.rules.specs.Held.{standing, below, above}
 use Rattle.rules.specs.Accept.{changed, column, heldOf, keptOf}
 use Rattle.rules.specs.Keep.{short, keepStep, kept, whileShort, keepLoop}
+use Rattle.rules.specs.Plain.{keepMany, visit, visits, passes}
 use Rattle.rules.specs.Outbid.{deemIf, deemedUpTo, whileOver, outbidStep, over, outbidLoop}
 use Rattle.table.proofs.Laws.{first-ext}
 
@@ -44,6 +45,26 @@ module _ (tick other : ℕ → Bool) (same : (p : ℕ) → p < 8 → tick p ≡ 
     keep-same (suc f) ps c =
         rw (first-short ps) (while-short (firstUpTo (short n goal other ps) m) _ _ (kept ps c)
         (λ p. rw (keep-same f (keepStep m n draw ps p) (c + 1))))
+
+    -- the plain engine sees of them those of the products that it visits
+    module _ (order : ℕ → ℕ) (known : (i : ℕ) → i < m → order i < m) where
+      visits-same : (s : Kept) (i : ℕ) → i ≤ m → visits m n target tick draw order s i ≡ visits m n goal other draw order s i
+      unfolding visits
+      visits-same s zero l = refl
+      visits-same s (suc i) l =
+          let p = order i in
+          let h : p < 8 = omega (arith, known i (omega arith)) in
+          let t = visits m n goal other draw order s i in
+          ap (λ t. visit m n target tick draw order t p) (visits-same s i (omega arith))
+          ∙ ap₂ (λ b x. keepMany m n draw (cond b (x - column heldOf (t .places) p n) 0) t p) (same p h) (aims p h)
+
+      pub plain-same : (f : ℕ) (s : Kept) → passes m n target tick draw order f s ≡ passes m n goal other draw order f s
+      unfolding passes
+      plain-same zero s = refl
+      plain-same (suc f) s =
+          rw (visits-same s m (omega arith))
+          (ap (cond (eqb (visits m n goal other draw order s m .count) (s .count)) (visits m n goal other draw order s m))
+          (plain-same f (visits m n goal other draw order s m)))
 
     first-over : (ps : List Place) → firstUpTo (over n target tick ps) m ≡ firstUpTo (over n goal other ps) m
     first-over ps =

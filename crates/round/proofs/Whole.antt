@@ -1,5 +1,5 @@
 -- The whole, against the definition. Assumes nothing.
-use mathlib.Core.Path.{_≡_, refl, sym, _∙_, ap, ap₂}
+use mathlib.Core.Path.{_≡_, refl, sym, _∙_, ap, ap₂, subst}
 use mathlib.Core.Bool.{true, false, cond}
 use mathlib.Core.List.{List}
 use Prim.Native.Nat.{ℕ, _+_, _*_, _≤_}
@@ -22,8 +22,9 @@ use Rattle.rules.specs.Answers.{bidsOpen, closed, stopped}
 use Rattle.rules.specs.Held.{nothing, heldIn, excess, ticked}
 use Rattle.rules.specs.Accept.{placeAt, acceptedAll, column, every, leftOf, heldOf, keptOf}
 use Rattle.rules.specs.Keep.{kept, keptAll}
+use Rattle.rules.specs.Plain.{plainAll}
 use Rattle.rules.specs.Outbid.{deemedUpTo, outbid, outbidAll}
-use Rattle.rules.specs.Round.{drawn, booked, atRest, priceNext, markNext, beforeNext, onward, stops, settled, afterStep2, afterStep4, calculated}
+use Rattle.rules.specs.Round.{drawn, booked, atRest, priceNext, markNext, beforeNext, onward, stops, orderFits, settled, afterStep2, plainStep2, afterStep4, afterKept, calculated, calculatedPlain}
 use Rattle.rules.specs.Layout.{loaded, stored}
 use Rattle.rules.proofs.Sums.{sum-ext}
 use Rattle.rules.proofs.Lists.{list-at, list-ext}
@@ -38,9 +39,10 @@ use Rattle.prices.specs.declared.Lanes.{Lanes}
 use Rattle.prices.specs.declared.Outlook.{Outlook}
 use Rattle.prices.specs.Outlook.{Foresees, Shows}
 use Rattle.prices.proofs.Laws.{over-of, stops-of, price-of, mark-of, before-of}
-use Rattle.round.specs.Ready.{LanesOf, opensWith, Ready, Calculates}
+use Rattle.round.specs.declared.Tally.{Tally}
+use Rattle.round.specs.Ready.{LanesOf, opensWith, Ready, Tallies}
 use Rattle.round.proofs.Bids.{drawn-all}
-use Rattle.round.proofs.Same.{deemed-same, keep-same, outbid-same}
+use Rattle.round.proofs.Same.{deemed-same, keep-same, plain-same, outbid-same}
 
 -- ---- step 5, worked out before the book is written
 
@@ -106,34 +108,41 @@ module _ (a : Auction) (ps : List Place) (free : List Tranches) (holds : List �
 
 -- ---- the steps before it
 
-module _ (a : Auction) (order ticks : List ℕ) (l : Lanes) (T : Ticks ticks a) (G : LanesOf l a) (few : a .terms .products ≤ 8) where
+module _ (a : Auction) (draw ticks : List ℕ) (l : Lanes) (T : Ticks ticks a) (G : LanesOf l a) (few : a .terms .products ≤ 8) where
   abbrev m : ℕ
   m = a .terms .products
 
   abbrev n : ℕ
   n = a .terms .bidders
 
-  pub kept-is : (k : Kept) (ps : List Place) → ps ≡ acceptedAll a → k ≡ keptAll m n (targetOn (l .target)) (isOne ticks) (drawn order) ps
-      → k ≡ afterStep2 a order
+  -- step 2 by rank, and in an order
+  pub kept-is : (k : Kept) (ps : List Place) → ps ≡ acceptedAll a → k ≡ keptAll m n (targetOn (l .target)) (isOne ticks) (drawn draw) ps
+      → k ≡ afterStep2 a draw
   kept-is k ps e f =
-      f ∙ ap (keptAll m n (targetOn (l .target)) (isOne ticks) (drawn order)) e
-      ∙ keep-same (isOne ticks) (ticked a) T m n few (targetOn (l .target)) (targetOf (setup a)) (G .target) (drawn order)
+      f ∙ ap (keptAll m n (targetOn (l .target)) (isOne ticks) (drawn draw)) e
+      ∙ keep-same (isOne ticks) (ticked a) T m n few (targetOn (l .target)) (targetOf (setup a)) (G .target) (drawn draw)
       (every leftOf (acceptedAll a) n) (acceptedAll a) 0
 
-  pub outbid-is : (k : Kept) (ps : List Place) (o : Outbid) → ps ≡ deemedUpTo (isOne ticks) (k .places) (n * 8)
-      → o ≡ outbidAll m n (targetOn (l .target)) (isOne ticks) (drawn order) ps (replicate 32 (tranches 0)) → k ≡ afterStep2 a order
-      → o ≡ afterStep4 a order (afterStep2 a order .places)
-  outbid-is k ps o e f g =
-      let qs : List Place = deemedUpTo (ticked a) (k .places) (n * 8) in
-      let w : ps ≡ qs = e ∙ deemed-same (isOne ticks) (ticked a) T (k .places) (n * 8) in
-      f ∙ ap (λ ps. outbidAll m n (targetOn (l .target)) (isOne ticks) (drawn order) ps (replicate 32 (tranches 0))) w
-      ∙ outbid-same (isOne ticks) (ticked a) T m n few (targetOn (l .target)) (targetOf (setup a)) (G .target) (drawn order)
-      (every keptOf qs n) (outbid qs (replicate 32 (tranches 0)) 0)
-      ∙ ap (λ k. afterStep4 a order (k .places)) g
+  pub plain-is : (order : List ℕ) → Drawn m order → (k : Kept) (ps : List Place) → ps ≡ acceptedAll a
+      → k ≡ plainAll m n (targetOn (l .target)) (isOne ticks) (drawn draw) (drawn order) ps → k ≡ plainStep2 a draw order
+  plain-is order O k ps e f =
+      f ∙ ap (plainAll m n (targetOn (l .target)) (isOne ticks) (drawn draw) (drawn order)) e
+      ∙ plain-same (isOne ticks) (ticked a) T m n few (targetOn (l .target)) (targetOf (setup a)) (G .target) (drawn draw) (drawn order)
+      (O .range) (every leftOf (acceptedAll a) n) (kept (acceptedAll a) 0)
+
+  -- steps 3 and 4
+  pub outbid-is : (qs ps : List Place) (o : Outbid) → ps ≡ deemedUpTo (isOne ticks) qs (n * 8)
+      → o ≡ outbidAll m n (targetOn (l .target)) (isOne ticks) (drawn draw) ps (replicate 32 (tranches 0)) → o ≡ afterStep4 a draw qs
+  outbid-is qs ps o e f =
+      let rs : List Place = deemedUpTo (ticked a) qs (n * 8) in
+      let w : ps ≡ rs = e ∙ deemed-same (isOne ticks) (ticked a) T qs (n * 8) in
+      f ∙ ap (λ ps. outbidAll m n (targetOn (l .target)) (isOne ticks) (drawn draw) ps (replicate 32 (tranches 0))) w
+      ∙ outbid-same (isOne ticks) (ticked a) T m n few (targetOn (l .target)) (targetOf (setup a)) (G .target) (drawn draw)
+      (every keptOf rs n) (outbid rs (replicate 32 (tranches 0)) 0)
 
 -- ---- the whole
 
-module _ (s order : List ℕ) (R : Ready s order) where
+module _ (s draw : List ℕ) (R : Ready s draw) where
   abbrev a : Auction
   a = loaded s
 
@@ -144,24 +153,41 @@ module _ (s order : List ℕ) (R : Ready s order) where
     pub few : m ≤ 8
     few = omega (arith, R .stands .limits .products)
 
-    pub drawn-by : Drawn n order
-    drawn-by = rw en (drawn-all (a .terms .bidders) order (R .stands .limits .bidders) (R .draw))
+    pub drawn-by : Drawn n draw
+    drawn-by = rw en (drawn-all (a .terms .bidders) draw (R .stands .limits .bidders) (R .draw))
 
-    pub calculates : (ticks : List ℕ) (l : Lanes) {os : List Chosen} → Ticks ticks a → LanesOf l a → l .overrides ≡ os
-        → (p₁ p₂ p₃ p₄ : List Place) (k o : ℕ) (free : List Tranches)
-        → p₁ ≡ acceptedAll a
-        → kept p₂ k ≡ keptAll m n (targetOn (l .target)) (isOne ticks) (drawn order) p₁
-        → p₃ ≡ deemedUpTo (isOne ticks) p₂ (n * 8)
-        → outbid p₄ free o ≡ outbidAll m n (targetOn (l .target)) (isOne ticks) (drawn order) p₃ (replicate 32 (tranches 0))
-        → {z : List ℕ} → z ≡ stored (settled a (l .overrides) (outbid p₄ free 0)) → Calculates s order os (record { kept = k; outbid = o }) z
-    unfolding calculated
-    calculates ticks l T G g p₁ p₂ p₃ p₄ k o free e₁ e₂ e₃ e₄ h =
-        let step-2 : kept p₂ k ≡ afterStep2 a order =
-        kept-is a order ticks l T G (R .stands .limits .products) (kept p₂ k) p₁ e₁ (rw (em, en) at e₂) in
-        let step-4 : outbid p₄ free o ≡ afterStep4 a order (afterStep2 a order .places) =
-        outbid-is a order ticks l T G (R .stands .limits .products) (kept p₂ k) p₃ (outbid p₄ free o) (rw en at e₃) (rw (em, en) at e₄) step-2 in
-        record {
-          kept = ap (λ k. k .count) step-2;
-          outbid = ap (λ o. o .count) step-4;
-          bytes = h ∙ ap₂ (λ os o. stored (settled a os o)) g step-4;
-        }
+    -- each product once
+    pub ordered-by : {order : List ℕ} → orderFits (a .terms .products) order ≡ true → Drawn m order
+    ordered-by {order} O = rw em (drawn-all (a .terms .products) order (omega (arith, R .stands .limits .products)) O)
+
+    module _ (ticks : List ℕ) (l : Lanes) (T : Ticks ticks a) (G : LanesOf l a) where
+      -- steps 3 to 5, from whatever step 2 kept
+      pub finishes : (qs ps rs : List Place) (k o : ℕ) (free : List Tranches) → ps ≡ deemedUpTo (isOne ticks) qs (n * 8)
+          → outbid rs free o ≡ outbidAll m n (targetOn (l .target)) (isOne ticks) (drawn draw) ps (replicate 32 (tranches 0))
+          → {z : List ℕ} → z ≡ stored (settled a (l .overrides) (outbid rs free 0))
+          → Tallies (afterKept a draw (l .overrides) (kept qs k)) (record { kept = k; outbid = o }) z
+      finishes qs ps rs k o free e₃ e₄ h =
+          let step-4 : outbid rs free o ≡ afterStep4 a draw qs =
+          outbid-is a draw ticks l T G (R .stands .limits .products) qs ps (outbid rs free o) (rw en at e₃) (rw (em, en) at e₄) in
+          record {
+            kept = refl;
+            outbid = ap (λ o. o .count) step-4;
+            bytes = h ∙ ap (λ o. stored (settled a (l .overrides) o)) step-4;
+          }
+
+      module _ {os : List Chosen} (g : l .overrides ≡ os) (ps qs : List Place) (k : ℕ) (e : ps ≡ acceptedAll a) {r : Tally} {z : List ℕ}
+          (F : Tallies (afterKept a draw (l .overrides) (kept qs k)) r z) where
+        pub calculates : kept qs k ≡ keptAll m n (targetOn (l .target)) (isOne ticks) (drawn draw) ps → Tallies (calculated a draw os) r z
+        unfolding calculated
+        calculates f =
+            subst (λ (x : List Chosen × Kept). Tallies (afterKept a draw (x .0) (x .1)) r z)
+            (ap₂ (λ os k. (os, k)) g (kept-is a draw ticks l T G (R .stands .limits .products) (kept qs k) ps e (rw (em, en) at f))) F
+
+        pub calculates-plain : (order : List ℕ) → orderFits (a .terms .products) order ≡ true
+            → kept qs k ≡ plainAll m n (targetOn (l .target)) (isOne ticks) (drawn draw) (drawn order) ps
+            → Tallies (calculatedPlain a draw os order) r z
+        unfolding calculatedPlain
+        calculates-plain order O f =
+            let D = drawn-all (a .terms .products) order (omega (arith, R .stands .limits .products)) O in
+            subst (λ (x : List Chosen × Kept). Tallies (afterKept a draw (x .0) (x .1)) r z)
+            (ap₂ (λ os k. (os, k)) g (plain-is a draw ticks l T G (R .stands .limits .products) order D (kept qs k) ps e (rw (em, en) at f))) F

@@ -5,17 +5,19 @@ use mathlib.Core.List.{List}
 use Prim.Native.Nat.{ℕ, _≤_, _<_}
 use lib.ListN.{length}
 use Rattle.rules.specs.declared.Auction.{Auction}
-use Rattle.rules.specs.declared.Chosen.{Chosen}
+use Rattle.rules.specs.declared.Place.{Place}
+use Rattle.rules.specs.declared.Calculated.{Calculated}
 use Rattle.rules.specs.Answers.{bidsOpen}
 use Rattle.rules.specs.Parts.{withPhase, withRound, withPrices, withMarks}
 use Rattle.rules.specs.Settings.{setup, targetOf}
 use Rattle.rules.specs.Bid.{priceAt, beforeAt}
 use Rattle.rules.specs.Legal.{isOpen}
 use Rattle.rules.specs.Stands.{Stands}
-use Rattle.rules.specs.Round.{drawFits, calculated}
+use Rattle.rules.specs.Round.{drawFits, orderFits}
 use Rattle.rules.specs.Layout.{loaded, stored}
 use Rattle.book.specs.Lent.{Long, Lent}
 use Rattle.held.specs.Ticks.{Ticks}
+use Rattle.table.specs.Room.{Room}
 use Rattle.prices.specs.declared.Lanes.{Lanes}
 use Rattle.prices.specs.Outlook.{Listed}
 use Rattle.round.specs.declared.Tally.{Tally}
@@ -48,8 +50,20 @@ pub record Ready (s order : List ℕ) : Type 0 where
   pub bidding : isOpen (loaded s) ≡ true
   pub draw : drawFits (loaded s .terms .bidders) order ≡ true
 
--- z are the bytes after
-pub record Calculates (s draw : List ℕ) (os : List Chosen) (r : Tally) (z : List ℕ) : Type 0 where
-  pub kept : r .kept ≡ calculated (loaded s) draw os .kept
-  pub outbid : r .outbid ≡ calculated (loaded s) draw os .outbid
-  pub bytes : z ≡ stored (calculated (loaded s) draw os .auction)
+-- the same with an order of its products
+pub record ReadyFor (s draw order : List ℕ) : Type 0 where
+  pub round : Ready s draw
+  pub ordered : orderFits (loaded s .terms .products) order ≡ true
+
+-- the state, its ticks and lanes, and the table after step 2
+pub record Finishing (s draw marks : List ℕ) (l : Lanes) (ps : List Place) : Type 0 where
+  pub round : Ready s draw
+  pub ticks : Ticks marks (loaded s)
+  pub lanes : LanesOf l (loaded s)
+  pub room : Room ps
+
+-- what a calculation answers, and the bytes after it
+pub record Tallies (c : Calculated) (r : Tally) (z : List ℕ) : Type 0 where
+  pub kept : r .kept ≡ c .kept
+  pub outbid : r .outbid ≡ c .outbid
+  pub bytes : z ≡ stored (c .auction)

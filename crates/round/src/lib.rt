@@ -9,13 +9,14 @@ ghost use Rattle.rules.specs.Parts.{tranchesAt, noCards, unmarked, withCards};
 ghost use Rattle.rules.specs.Bid.{defaultLine};
 ghost use Rattle.rules.specs.Accept.{accepted, acceptedAll};
 ghost use Rattle.rules.specs.Outbid.{outbid};
-ghost use Rattle.rules.specs.Round.{booked, settled};
+ghost use Rattle.rules.specs.Keep.{kept};
+ghost use Rattle.rules.specs.Round.{booked, settled, afterKept, calculated, calculatedPlain};
 ghost use Rattle.rules.specs.Layout.{loaded, stored};
 ghost use Rattle.book.specs.Lent.{Long};
 ghost use lib.ListN.{getD};
 ghost use Rattle.table.specs.Rows.{placesIn};
 ghost use Rattle.storing.specs.Written.{Writes, amountAt};
-ghost use Rattle.round.specs.Ready.{Accepting, LanesOf, opensWith, Settling, Ready, Calculates};
+ghost use Rattle.round.specs.Ready.{Accepting, LanesOf, opensWith, Settling, Ready, ReadyFor, Finishing, Tallies};
 use prices::Lanes;
 use rules::CLOSED;
 use rules::Chosen;
@@ -189,9 +190,34 @@ pub struct Tally {
     pub outbid: u32,
 }
 
+// Steps 3 to 5, once step 2 has kept so many tranches.
+fn finish(
+    s: &mut [u8],
+    ps: &mut [[u32; WIDTH]; 256],
+    ticks: &[u8; 8],
+    draw: &[u8],
+    lanes: Lanes,
+    count: u32,
+) -> Tally
+    requires { ⌜ Finishing (now s) (now draw) (now ticks) lanes (placesIn (now ps)) ⌝ }
+    ensures { λ r. ⌜ Tallies (afterKept (loaded (now (s .entry))) (now (draw .entry)) (lanes .overrides) (kept (placesIn (now (ps .entry))) count)) r (now (s .exit)) ⌝ }
+{
+    let products = book::products(s);
+    let bidders = book::bidders(s);
+    let targets = lanes.target;
+    outbid::deem_all(ps, ticks, bidders);
+    let o = outbid::outbid_all(ps, &targets, ticks, draw, products, bidders);
+    let free = o.free;
+    settle(s, ps, free, lanes);
+    Tally {
+        kept: count,
+        outbid: o.count,
+    }
+}
+
 pub fn calculate(s: &mut [u8], draw: &[u8], overrides: [Chosen; 8]) -> Tally
     requires { ⌜ Ready (now s) (now draw) ⌝ }
-    ensures { λ r. ⌜ Calculates (now (s .entry)) (now (draw .entry)) overrides r (now (s .exit)) ⌝ }
+    ensures { λ r. ⌜ Tallies (calculated (loaded (now (s .entry))) (now (draw .entry)) overrides) r (now (s .exit)) ⌝ }
 {
     let products = book::products(s);
     let bidders = book::bidders(s);
@@ -201,12 +227,21 @@ pub fn calculate(s: &mut [u8], draw: &[u8], overrides: [Chosen; 8]) -> Tally
     let mut ps = [[0u32; WIDTH]; 256];
     accept_all(s, &ticks, &mut ps);
     let kept = keep::keep_all(&mut ps, &targets, &ticks, draw, products, bidders);
-    outbid::deem_all(&mut ps, &ticks, bidders);
-    let o = outbid::outbid_all(&mut ps, &targets, &ticks, draw, products, bidders);
-    let free = o.free;
-    settle(s, &ps, free, lanes);
-    Tally {
-        kept,
-        outbid: o.count,
-    }
+    finish(s, &mut ps, &ticks, draw, lanes, kept)
+}
+
+// The same, but that step 2 goes by an order of the products.
+pub fn calculate_plain(s: &mut [u8], draw: &[u8], overrides: [Chosen; 8], order: &[u8]) -> Tally
+    requires { ⌜ ReadyFor (now s) (now draw) (now order) ⌝ }
+    ensures { λ r. ⌜ Tallies (calculatedPlain (loaded (now (s .entry))) (now (draw .entry)) overrides (now (order .entry))) r (now (s .exit)) ⌝ }
+{
+    let products = book::products(s);
+    let bidders = book::bidders(s);
+    let lanes = lanes_of(s, overrides);
+    let targets = lanes.target;
+    let ticks = held::ticks(s);
+    let mut ps = [[0u32; WIDTH]; 256];
+    accept_all(s, &ticks, &mut ps);
+    let kept = plain::keep_plain(&mut ps, &targets, &ticks, draw, order, products, bidders);
+    finish(s, &mut ps, &ticks, draw, lanes, kept)
 }

@@ -17,6 +17,9 @@ pub mod Priorities
 pub mod Fitting
 pub mod Places
 pub mod Keep
+pub mod Runs
+pub mod Exchange
+pub mod Plain
 pub mod Withdrawal
 pub mod OneLot
 pub mod Reduced

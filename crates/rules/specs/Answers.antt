@@ -69,6 +69,11 @@ phaseNumber Stopped = stopped
 abbrev pub phaseOf : ℕ → Phase
 phaseOf n = cond (eqb n issued) Issued (cond (eqb n bidsOpen) Open (cond (eqb n closed) Closed Stopped))
 
+-- "the first that applies": this number, or the next one where this is none
+abbrev pub firstOf : ℕ → ℕ → ℕ
+firstOf zero next = next
+firstOf (suc n) next = suc n
+
 -- a call's number as its answer: 0 is done
 abbrev pub answerFrom : ℕ → Answer
 answerFrom zero = answer.Done

@@ -27,14 +27,14 @@ use Rattle.rules.specs.declared.Awarded.{Awarded}
 use Rattle.rules.specs.declared.Volume.{Volume}
 use Rattle.rules.specs.declared.Volume.the-variants as volume
 use Rattle.rules.specs.Count.{listOf}
-use Rattle.rules.specs.Answers.{Outcome, outcome, unlessRefused, bidsOpen, closed}
+use Rattle.rules.specs.Answers.{Outcome, outcome, firstOf, unlessRefused, bidsOpen, closed}
 use Rattle.rules.specs.Parts.{lane, seat, cards, noCards, auction, withCards}
 use Rattle.rules.specs.Settings.{settingsFit, setupOf, targetOf, capOf, startOf, initialOf}
 use Rattle.rules.specs.Bits.{setIn}
 use Rattle.rules.specs.Card.{readCard, writeCard}
 use Rattle.rules.specs.Held.{nothing}
 use Rattle.rules.specs.Bid.{judged}
-use Rattle.rules.specs.Round.{drawFits, overridesFit, calculated}
+use Rattle.rules.specs.Round.{drawFits, orderFits, overridesFit, calculated, calculatedPlain}
 use Rattle.rules.specs.Cutback.{mayCut, cutBack, suggestedVolume, suggestedNumber}
 use Rattle.rules.specs.Report.{reportOn, reportRefused, resultOf, resultRefused}
 use Rattle.rules.specs.Layout.{stateLength, stored, loaded, allZero}
@@ -119,11 +119,22 @@ calculateNumber s draw os = ofState s 3 (roundNumber draw os)
 abbrev pub calculationDone : Calculated → Outcome Calculation
 calculationDone c = outcome (calculation.Done (c .kept) (c .outbid)) (stored (c .auction))
 
+abbrev pub calculatedUnless : ℕ → Calculated → List ℕ → Outcome Calculation
+calculatedUnless n c s = cond (eqb n 0) (calculationDone c) (outcome (calculation.Refused n) s)
+
 unfoldable pub calculateCall : List ℕ → List ℕ → List Chosen → Outcome Calculation
-calculateCall s draw os =
-    cond (eqb (calculateNumber s draw os) 0)
-    (calculationDone (calculated (loaded s) draw os))
-    (outcome (calculation.Refused (calculateNumber s draw os)) s)
+calculateCall s draw os = calculatedUnless (calculateNumber s draw os) (calculated (loaded s) draw os) s
+
+-- ---- calculate with the plain engine: 1, 2, 3, 14, 19, as of calculate, then 23 "the product order isn't each product once"
+
+abbrev pub orderNumber : List ℕ → Auction → ℕ
+orderNumber order a = cond (orderFits (a .terms .products) order) 0 23
+
+abbrev pub plainNumber : List ℕ → List ℕ → List Chosen → List ℕ → ℕ
+plainNumber s draw os order = firstOf (calculateNumber s draw os) (orderNumber order (loaded s))
+
+unfoldable pub plainCall : List ℕ → List ℕ → List Chosen → List ℕ → Outcome Calculation
+plainCall s draw os order = calculatedUnless (plainNumber s draw os order) (calculatedPlain (loaded s) draw os order) s
 
 -- ---- cutback: 1, 2, 3, 20
 

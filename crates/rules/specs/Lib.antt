@@ -12,6 +12,7 @@ pub mod Held
 pub mod Bid
 pub mod Accept
 pub mod Keep
+pub mod Plain
 pub mod Outbid
 pub mod Round
 pub mod Price

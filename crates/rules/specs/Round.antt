@@ -21,6 +21,7 @@ use Rattle.rules.specs.Held.{standingOf, ticked, excess, above}
 use Rattle.rules.specs.Bid.{oneIf, priceAt, beforeAt}
 use Rattle.rules.specs.Accept.{placeAt, acceptedAll}
 use Rattle.rules.specs.Keep.{keptAll}
+use Rattle.rules.specs.Plain.{plainAll}
 use Rattle.rules.specs.Outbid.{deemedUpTo, outbidAll}
 use Rattle.rules.specs.Price.{overrideFits, Worked, nextPrice, nextBefore}
 
@@ -34,6 +35,10 @@ abbrev pub drawFits : ℕ → List ℕ → Bool
 drawFits n order =
     eqb (length order) n
     && (allUpTo (λ i. ltb (drawn order i) n) n && allUpTo (λ b. isAt (firstUpTo (λ i. eqb (drawn order i) b) n)) n)
+
+-- "each product once": a list of all m products, as the draw is of all bidders
+abbrev pub orderFits : ℕ → List ℕ → Bool
+orderFits m order = drawFits m order
 
 -- ---- the overrides, one optional for each product
 
@@ -53,6 +58,11 @@ overridesFit os = allUpTo (λ p. overrideFits (overrideFor os p)) 8
 abbrev pub afterStep2 : Auction → List ℕ → Kept
 afterStep2 a order =
     keptAll (a .terms .products) (a .terms .bidders) (targetOf (setup a)) (ticked a) (drawn order) (acceptedAll a)
+
+-- the same step by the plain engine, in an order of the products
+abbrev pub plainStep2 : Auction → List ℕ → List ℕ → Kept
+plainStep2 a draw order =
+    plainAll (a .terms .products) (a .terms .bidders) (targetOf (setup a)) (ticked a) (drawn draw) (drawn order) (acceptedAll a)
 
 -- "Free eligibility not used lapses": f begins again at 0
 abbrev pub afterStep4 : Auction → List ℕ → List Place → Outbid
@@ -116,3 +126,7 @@ afterKept a order os k = counted a os k (afterStep4 a order (k .places))
 
 unfoldable pub calculated : Auction → List ℕ → List Chosen → Calculated
 calculated a order os = afterKept a order os (afterStep2 a order)
+
+-- a whole calculation of which only step 2 goes by an order of the products
+unfoldable pub calculatedPlain : Auction → List ℕ → List Chosen → List ℕ → Calculated
+calculatedPlain a draw os order = afterKept a draw os (plainStep2 a draw order)

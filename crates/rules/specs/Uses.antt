@@ -8,7 +8,7 @@ use Rattle.rules.specs.declared.Tranches.{Tranches}
 use Rattle.rules.specs.declared.Line.{Line}
 use Rattle.rules.specs.declared.Chosen.{Chosen}
 use Rattle.rules.specs.declared.Settings.{Settings}
-use Rattle.rules.specs.Calls.{openCall, fileCall, calculateCall, cutbackCall, returnCall}
+use Rattle.rules.specs.Calls.{openCall, fileCall, calculateCall, plainCall, cutbackCall, returnCall}
 
 -- every call but a return, with its inputs; read, write and the suggested volume are lent no state
 pub data Call : Type 0 where
@@ -16,6 +16,7 @@ pub data Call : Type 0 where
   files : List ℕ → Call
   counts : Call
   calculates : List ℕ → List Chosen → Call
+  calculatesPlain : List ℕ → List Chosen → List ℕ → Call
   cuts : List Tranches → List Tranches → Call
   reports : ℕ → Call
   results : Call
@@ -29,6 +30,7 @@ after s (opens x) = openCall s x .bytes
 after s (files c) = fileCall s c .bytes
 after s counts = s
 after s (calculates draw os) = calculateCall s draw os .bytes
+after s (calculatesPlain draw os order) = plainCall s draw os order .bytes
 after s (cuts targets caps) = cutbackCall s targets caps .bytes
 after s (reports b) = s
 after s results = s
@@ -42,6 +44,7 @@ Sized (opens x) = (length (x .eligibility) ≡ 32) × (length (x .row) ≡ 8)
 Sized (files c) = Unit {0}
 Sized counts = Unit {0}
 Sized (calculates draw os) = Unit {0}
+Sized (calculatesPlain draw os order) = Unit {0}
 Sized (cuts targets caps) = Unit {0}
 Sized (reports b) = Unit {0}
 Sized results = Unit {0}

@@ -87,6 +87,22 @@ pub fn calculate(
     }
 }
 
+pub fn calculate_plain(
+    one: &mut [u8],
+    other: &mut [u8],
+    draw: &[u8],
+    overrides: [Chosen; 8],
+    order: &[u8],
+) -> Calculations
+    requires { ⌜ now one ≡ now other ⌝ }
+    ensures { λ r. ⌜ (r .one ≡ r .other) × (now (one .exit) ≡ now (other .exit)) ⌝ }
+{
+    Calculations {
+        one: console::calculate_plain(one, draw, overrides, order),
+        other: console::calculate_plain(other, draw, overrides, order),
+    }
+}
+
 pub fn cutback(
     one: &mut [u8],
     other: &mut [u8],

@@ -141,7 +141,7 @@ t3 = state T bidsOpen 4 970 913 1000 941 (book (g 0) (g 1) (g 1) (g 1) (g 1) (g 
 abbrev t3′ : Auction
 t3′ = state T bidsOpen 4 941 913 970 941 (book (g 2) (g 0) (g 1) (g 1) (g 0) (g 2)) 0
 
-abbrev chain : Auction
+abbrev pub chain : Auction
 chain = state T closed 2 970 970 1000 1000 (book (entry 0 1 0 0) (g 1) (entry 0 0 1 990) (g 0) (g 0) (entry 0 0 1 980)) 0
 
 abbrev pub draw : ℕ → ℕ → ℕ → List ℕ

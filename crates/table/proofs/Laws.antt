@@ -1,6 +1,6 @@
 -- The first that passes a test, a place stored anew, an array filled. Assumes nothing.
-use mathlib.Core.Path.{_≡_, refl, sym, _∙_, ap, subst}
-use mathlib.Core.Bool.{Bool, true, false, _&&_}
+use mathlib.Core.Path.{_≡_, refl, sym, _∙_, subst}
+use mathlib.Core.Bool.{Bool, true, false}
 use mathlib.Core.List.{List}
 use Prim.Native.Nat.{ℕ, zero, suc, _+_, _*_, _≤_, _<_}
 use native.Mathlib.Omega.{arith}
@@ -12,25 +12,18 @@ use Rattle.rules.specs.declared.Pick.{Pick}
 use Rattle.rules.specs.declared.Pick.the-variants.{At, Nobody}
 use Rattle.rules.specs.declared.Lots.{Lots}
 use Rattle.rules.specs.declared.Place.{Place}
-use Rattle.rules.specs.Count.{pickIf, better, firstUpTo, never, sumUpTo}
+use Rattle.rules.specs.Count.{firstUpTo, never, sumUpTo}
 use Rattle.rules.specs.Lots.{lotAt}
 use Rattle.rules.specs.Accept.{placeAt, column, heldOf}
-use Rattle.rules.proofs.Sums.{best-found, first-stays}
+use Rattle.rules.proofs.Sums.{best-found, best-ext, first-stays}
 use Rattle.rules.proofs.LotLaws.{Most}
 use Rattle.table.specs.Room.{Fits, Room}
 
 -- ---- the first that passes a test
 
 -- the same test, number by number, finds the same
-test-by : (f g : ℕ → Bool) (n : ℕ) (q : Pick) → f n ≡ g n → better f never q n ≡ better g never q n
-test-by f g n Nobody e = ap (λ t. pickIf t n Nobody) e
-test-by f g n (At j) e = ap (λ t. pickIf (t && never n j) n (At j)) e
-
 pub first-ext : (f g : ℕ → Bool) (n : ℕ) → ((i : ℕ) → i < n → f i ≡ g i) → firstUpTo f n ≡ firstUpTo g n
-first-ext f g zero h = refl
-first-ext f g (suc n) h =
-    ap (λ q. better f never q n) (first-ext f g n (λ i l. h i (omega arith)))
-    ∙ test-by f g n (firstUpTo g n) (h n (omega arith))
+first-ext f g n h = best-ext f g never never n h (λ i j _ _. refl)
 
 -- none passes before the first
 module _ (has : ℕ → Bool) (m i : ℕ) (e : firstUpTo has m ≡ At i) where

@@ -30,7 +30,7 @@ refused 19 an override outside 1 to 1,000\n\
 refused 20 a condition on the cutback not met\n\
 refused 21\n\
 refused 22\n\
-refused 23\n\
+refused 23 the product order isn't each product once\n\
 refused 24\n\
 refused 25\n\
 refused 26\n\

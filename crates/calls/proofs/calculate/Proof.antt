@@ -1,4 +1,3 @@
-use Rattle.calls.proofs.Steps.{calculated}
 use mathlib.Core.Logic.{inl}
 use mathlib.Core.Path.{refl}
 use borrow.Author.Needs.{needs}
@@ -8,4 +7,4 @@ use Rattle.calls.proofs.calculate.Tie as tie
 pub calculate-spec : {M : Type 1} → statement M
 calculate-spec =
     tie.close
-    (tie.spec (λ c κs. search needs) (λ c. inl refl) (λ c κs. search needs) (λ c. inl refl) (λ c κs. search needs) (λ c. inl refl) (λ c κs. search needs) (λ c. search needs) (λ c. search needs) (λ c. search needs) (λ c κs. search needs) (λ c. search needs) (λ c. search needs) (λ c. search needs) (λ c κs. search needs) (λ c. search calculated))
+    (tie.spec (λ c κs. search needs) (λ c. inl refl) (λ c κs. search needs) (λ c. inl refl) (λ c κs. search needs) (λ c κs. search needs) (λ c. inl refl) (λ c. inl refl) (λ c κs. search needs) (λ c. search needs) (λ c. search needs) (λ c. search needs) (λ c. search needs) (λ c. search needs) (λ c. search needs) (λ c κs. search needs) (λ c. search needs) (λ c. search needs) (λ c. search needs) (λ c. search needs) (λ c. search needs) (λ c. search needs) (λ c κs. search needs) (λ c. search needs))

@@ -4,10 +4,10 @@ use Rattle.remark.proofs.drawing.put_missing.Statement.{statement}
 use Rattle.remark.proofs.drawing.put_missing.Tie as tie
 
 abbrev Inv-loop : tie.InvT-loop
-Inv-loop out₀ at draw bidders begun b₀ t9 out b = b ≤ 32
+Inv-loop out₀ at order count form begun b₀ t9 out b = b ≤ 32
 
 abbrev μ-loop : tie.MeasureT-loop
-μ-loop out₀ at draw bidders begun b₀ t9 out b = 32 - b
+μ-loop out₀ at order count form begun b₀ t9 out b = 32 - b
 
 pub put-missing-spec : {M : Type 1} → statement M
 put-missing-spec =
