@@ -6,7 +6,6 @@ use Prim.Native.Nat.{ℕ, zero, suc}
 use native.Mathlib.Omega.{arith}
 use borrow.Author.Tests.{eqb-true, eqb-false}
 use lib.Dec.{eqb}
-use Rattle.rules.specs.declared.Place.{Place}
 use Rattle.rules.specs.declared.Chosen.{Chosen}
 use Rattle.rules.specs.declared.Auction.{Auction}
 use Rattle.rules.specs.declared.Calculation.{Calculation}
@@ -14,11 +13,10 @@ use Rattle.rules.specs.Answers.{Outcome, firstOf}
 use Rattle.rules.specs.Settings.{setup, targetOf}
 use Rattle.rules.specs.Held.{ticked}
 use Rattle.rules.specs.Accept.{acceptedAll}
-use Rattle.rules.specs.Keep.{Keepable, kept}
-use Rattle.rules.specs.Round.{drawn, drawFits, orderFits, overridesFit, afterStep2, plainStep2, afterKept, calculated, calculatedPlain}
+use Rattle.rules.specs.Round.{drawn, drawFits, orderFits, afterStep2, plainStep2, afterKept, calculated, calculatedPlain}
 use Rattle.rules.specs.Layout.{loaded}
 use Rattle.rules.specs.Legal.{isOpen}
-use Rattle.rules.specs.Calls.{roundNumber, calculateNumber, calculatedUnless, calculationDone, calculateCall, orderNumber, plainNumber, plainCall}
+use Rattle.rules.specs.Calls.{roundNumber, calculateNumber, calculatedUnless, calculateCall, plainNumber, plainCall}
 use Rattle.rules.specs.Stands.{Stands}
 use Rattle.rules.proofs.Legal.{stands-take}
 use Rattle.rules.proofs.Plain.{plain-same}

@@ -35,7 +35,7 @@ use Rattle.rules.specs.Stands.{Stands, Long}
 use Rattle.laws.specs.OneCall.{StandsIn}
 use Rattle.laws.proofs.OneCall.{stood, of-standing, open-stands, open-loaded, open-standing, file-refused, calculate-accepts, calculate-refused, cutback-accepts, cutback-refused}
 use Rattle.rules.specs.Uses.{Call, opens, files, counts, calculates, calculatesPlain, cuts, reports, results, reads, writes, suggests, after}
-use Rattle.promises.specs.Runs.{run, openedBy, filledPart, Round, roundOf, Cutback, cutbacks, settingsAfter}
+use Rattle.promises.specs.Runs.{run, openedBy, filledPart, Round, Cutback, cutbacks, settingsAfter}
 use Rattle.promises.specs.Awards.{Closed, awardOn, paidFor, PaidHighest}
 use Rattle.promises.proofs.Paid.{paid-most, paid-some, paid-none}
 use Rattle.promises.proofs.Offers.{closed-within}

@@ -9,7 +9,7 @@ use Rattle.rules.specs.declared.Place.{Place}
 use Rattle.rules.specs.declared.Chosen.{Chosen}
 use Rattle.rules.specs.declared.Auction.{Auction}
 use Rattle.rules.specs.declared.Calculation.the-variants as calculation
-use Rattle.rules.specs.Answers.{Outcome, outcome, firstOf}
+use Rattle.rules.specs.Answers.{outcome, firstOf}
 use Rattle.rules.specs.Settings.{setup, targetOf}
 use Rattle.rules.specs.Held.{ticked}
 use Rattle.rules.specs.Accept.{placeAt, acceptedAll}

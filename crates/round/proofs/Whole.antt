@@ -146,9 +146,6 @@ module _ (s draw : List ℕ) (R : Ready s draw) where
   abbrev a : Auction
   a = loaded s
 
-  pub counts : Counts a
-  counts = let L = R .stands .limits in record { products = L .products; bidders = L .bidders; rows = L .rows }
-
   module _ {m n : ℕ} (em : m ≡ a .terms .products) (en : n ≡ a .terms .bidders) where
     pub few : m ≤ 8
     few = omega (arith, R .stands .limits .products)
@@ -177,11 +174,13 @@ module _ (s draw : List ℕ) (R : Ready s draw) where
 
       module _ {os : List Chosen} (g : l .overrides ≡ os) (ps qs : List Place) (k : ℕ) (e : ps ≡ acceptedAll a) {r : Tally} {z : List ℕ}
           (F : Tallies (afterKept a draw (l .overrides) (kept qs k)) r z) where
+        -- what step 2 is by its definition
+        tallied : (x : Kept) → kept qs k ≡ x → Tallies (afterKept a draw os x) r z
+        tallied x f = subst (λ (y : List Chosen × Kept). Tallies (afterKept a draw (y .0) (y .1)) r z) (ap₂ (λ os k. (os, k)) g f) F
+
         pub calculates : kept qs k ≡ keptAll m n (targetOn (l .target)) (isOne ticks) (drawn draw) ps → Tallies (calculated a draw os) r z
         unfolding calculated
-        calculates f =
-            subst (λ (x : List Chosen × Kept). Tallies (afterKept a draw (x .0) (x .1)) r z)
-            (ap₂ (λ os k. (os, k)) g (kept-is a draw ticks l T G (R .stands .limits .products) (kept qs k) ps e (rw (em, en) at f))) F
+        calculates f = tallied _ (kept-is a draw ticks l T G (R .stands .limits .products) (kept qs k) ps e (rw (em, en) at f))
 
         pub calculates-plain : (order : List ℕ) → orderFits (a .terms .products) order ≡ true
             → kept qs k ≡ plainAll m n (targetOn (l .target)) (isOne ticks) (drawn draw) (drawn order) ps
@@ -189,5 +188,4 @@ module _ (s draw : List ℕ) (R : Ready s draw) where
         unfolding calculatedPlain
         calculates-plain order O f =
             let D = drawn-all (a .terms .products) order (omega (arith, R .stands .limits .products)) O in
-            subst (λ (x : List Chosen × Kept). Tallies (afterKept a draw (x .0) (x .1)) r z)
-            (ap₂ (λ os k. (os, k)) g (plain-is a draw ticks l T G (R .stands .limits .products) order D (kept qs k) ps e (rw (em, en) at f))) F
+            tallied _ (plain-is a draw ticks l T G (R .stands .limits .products) order D (kept qs k) ps e (rw (em, en) at f))

@@ -1,4 +1,3 @@
-use mathlib.Core.Path.{refl}
 use native.Mathlib.Omega.{arith}
 use Rattle.rules.specs.Calls.{roundNumber}
 use Rattle.numbers.proofs.StateLaws.{Stood, stood-by, first-said, next-said}
