@@ -10,7 +10,7 @@ use text::{ANSWER, Cursor, Hex, Take, take_hex, take_number, word, wrong, wrong_
 // ---- The words of one product
 
 // A number, and the place after it; or what is wrong, and where.
-#[derive(Drop)]
+#[derive(Clone, Copy)]
 pub enum Next {
     Number(u32, Cursor),
     Wrong(Fault, usize),
@@ -28,7 +28,7 @@ fn number_at(line: &[u8], c: Cursor) -> Next
 }
 
 // What is withdrawn, and the place after it.
-#[derive(Drop)]
+#[derive(Clone, Copy)]
 pub enum Leaving {
     Given(Lots, Cursor),
     Wrong(Fault, usize),
@@ -83,7 +83,7 @@ fn leaving_at(line: &[u8], c: Cursor) -> Leaving
 }
 
 // A product's line, and the place after its words.
-#[derive(Drop)]
+#[derive(Clone, Copy)]
 pub enum Group {
     Given(Line, Cursor),
     Wrong(Fault, usize),
@@ -137,7 +137,7 @@ fn put_fault(f: Fault, at: usize, out: &mut [u8; ANSWER]) -> usize {
 
 // How many products a bid has and the line of each, with the place after the words of the last; `said` is 0, or the length of the error
 // that is in the answer.
-#[derive(Drop)]
+#[derive(Clone, Copy)]
 pub struct Bid {
     pub said: usize,
     pub count: usize,

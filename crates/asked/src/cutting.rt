@@ -7,7 +7,7 @@ use crate::numbers::{Numbers, all_numbers, limit, other_count, two_bytes};
 use rules::Tranches;
 use text::{ANSWER, Cursor, wrong};
 
-#[derive(Drop)]
+#[derive(Clone, Copy)]
 pub struct Revised {
     pub targets: [Tranches; 8],
     pub caps: [Tranches; 8],

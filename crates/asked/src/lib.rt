@@ -1,5 +1,7 @@
 // What is typed after a command's word: plain numbers, a card's bytes, settings, bid lines, overrides, a cutback. What is wrong is put into the lent
 // answer, with its column, and the length of that is handed back.
+#![tactic(auto)]
+
 mod bidding;
 mod cutting;
 mod lots;

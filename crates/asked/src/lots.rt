@@ -8,7 +8,7 @@ use rules::{Lot, Lots, Tranches};
 use text::{Read, read_number};
 
 // What is wrong with a bid that is typed.
-#[derive(Drop)]
+#[derive(Clone, Copy)]
 pub enum Fault {
     // The line ends within a product's words.
     Short,
@@ -40,7 +40,7 @@ fn place_of(s: &[u8], b: u8, at: usize, e: usize) -> usize
 }
 
 // A count or a price, from one place to another; or what is wrong with it, and where.
-#[derive(Drop)]
+#[derive(Clone, Copy)]
 pub enum Digits {
     Number(u32),
     Wrong(Fault, usize),
@@ -60,7 +60,7 @@ fn number_in(s: &[u8], a: usize, e: usize) -> Digits
     }
 }
 
-#[derive(Drop)]
+#[derive(Clone, Copy)]
 pub enum Part {
     Given(Lot),
     Wrong(Fault, usize),
@@ -94,7 +94,7 @@ fn lot_in(s: &[u8], a: usize, e: usize) -> Part
     }
 }
 
-#[derive(Drop)]
+#[derive(Clone, Copy)]
 pub enum Withdrawn {
     Given(Lots),
     Wrong(Fault, usize),

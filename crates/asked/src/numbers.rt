@@ -7,7 +7,7 @@ ghost use Rattle.asked.specs.Typed.{limit_of, typed_after, typed_at};
 use text::{ANSWER, Cursor, Take, take_number, word, wrong, wrong_number};
 
 // How many numbers stand one after the other, and the place after them; or where one stands that is too large.
-#[derive(Drop)]
+#[derive(Clone, Copy)]
 pub enum List {
     Found(u8, Cursor),
     TooLarge(usize),
@@ -50,7 +50,7 @@ pub fn too_large(at: usize, out: &mut [u8; ANSWER]) -> usize {
 }
 
 // A number, and the place after it; or the length of the error that is in the answer.
-#[derive(Drop)]
+#[derive(Clone, Copy)]
 pub enum One {
     Number(u32, Cursor),
     Said(usize),
@@ -81,7 +81,7 @@ pub fn ends(line: &[u8], c: Cursor, out: &mut [u8; ANSWER]) -> usize {
 }
 
 // How many were found; or the length of the error that is in the answer.
-#[derive(Drop)]
+#[derive(Clone, Copy)]
 pub enum Numbers {
     Found(usize),
     Said(usize),

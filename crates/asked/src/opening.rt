@@ -9,7 +9,7 @@ use rules::{BasisPoints, Price, Product, Row, Settings, Tranches, Unit};
 use text::{ANSWER, Cursor, Take, take_number, word, wrong};
 
 // The settings, and 0 where they were given; otherwise the length of the error that is in the answer.
-#[derive(Drop)]
+#[derive(Clone, Copy)]
 pub struct Opening {
     pub said: usize,
     pub settings: Settings,
@@ -18,7 +18,7 @@ pub struct Opening {
 // ---- From numbers to settings
 
 // How much was typed, and of which unit.
-#[derive(Drop)]
+#[derive(Clone, Copy)]
 pub struct Sizes {
     pub unit: Unit,
     pub statewide: u32,
@@ -138,7 +138,7 @@ fn meant(line: &[u8], c: Cursor) -> bool {
 
 // How many groups of numbers stand after a key word, and the place after them; `said` is the length of the error where something is
 // wrong, otherwise 0.
-#[derive(Drop)]
+#[derive(Clone, Copy)]
 struct Group {
     said: usize,
     count: u8,

@@ -12,7 +12,7 @@ use rules::{BasisPoints, Chosen, Override};
 use text::{ANSWER, Cursor, Take, take_number, word, wrong};
 
 // What stands where a decrement belongs.
-#[derive(Drop)]
+#[derive(Clone, Copy)]
 pub enum Points {
     Given(u16, Cursor),
     NotANumber(usize),
@@ -48,7 +48,7 @@ fn no_product(at: usize, out: &mut [u8; ANSWER]) -> usize {
 
 // The draw's length, the overrides and the length of the order, 0 where none is given, and 0 where all is well; otherwise the length of the
 // error that is in the answer.
-#[derive(Drop)]
+#[derive(Clone, Copy)]
 pub struct Drawn {
     pub said: usize,
     pub count: usize,
@@ -170,7 +170,7 @@ fn no_pair(line: &[u8], q: usize, n: usize, key: usize, out: &mut [u8; ANSWER]) 
 }
 
 // The overrides and the place after them, and 0 where they were given; otherwise the length of the error.
-#[derive(Drop)]
+#[derive(Clone, Copy)]
 pub struct Pairs {
     said: usize,
     overrides: [Chosen; 8],

@@ -34,7 +34,7 @@ pub fn say(out: &mut [u8; ANSWER], words: &[u8]) {
 }
 
 // What is at a path: a state, nothing, or something that cannot be served, which is said. Nothing but a file is ever opened.
-#[derive(Drop)]
+#[derive(Clone, Copy)]
 pub enum Found {
     State,
     Missing,

@@ -14,7 +14,7 @@ use text::{ANSWER, Cursor, put, put_named, read_again, send, word};
 // ---- One line
 
 // What is wrong with a line.
-#[derive(Drop)]
+#[derive(Clone, Copy)]
 pub enum Fault {
     None,
     // The journal cannot be read on.
@@ -167,7 +167,7 @@ fn play_line(
 // ---- All lines
 
 // How far the journal was played.
-#[derive(Drop)]
+#[derive(Clone, Copy)]
 pub struct Played {
     // Whole lines, and the last of them after which the state was the box's.
     pub lines: u64,
@@ -204,7 +204,7 @@ fn line_length(bytes: &[u8]) -> usize
 }
 
 // What was read from the place of the next line on: it is played, and the place after it found.
-#[derive(Drop)]
+#[derive(Clone, Copy)]
 pub struct Turn {
     pub played: Played,
     pub ended: bool,

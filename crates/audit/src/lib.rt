@@ -1,4 +1,6 @@
 // A box file found, checked against its journal, and looked at when it comes back. Nothing is changed here.
+#![tactic(auto)]
+
 mod found;
 mod journal;
 mod returned;

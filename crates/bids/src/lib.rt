@@ -1,5 +1,7 @@
 // "Rules of a bid" of document 01: a bid is judged by numbers 8 to 13, each over all products before the next.
 // Every sum is of u16 fields, at most 32 of them, and is taken in a u32 whatever the state and the card hold.
+#![tactic(auto)]
+
 mod line;
 
 ghost use Rattle.std.specs.Prelude.{◌≡◌, ◌&&◌, cond, ℕ, ◌+◌, ◌-◌, ◌<◌, ltb};
@@ -14,7 +16,7 @@ use rules::{Line, Record};
 // ---- One pass over the products
 
 // The sums of "Rules of a bid" over the products passed.
-#[derive(Drop)]
+#[derive(Clone, Copy)]
 pub struct Sums {
     pub going: u32,
     pub bid: u32,
@@ -57,7 +59,7 @@ impl Sums {
     }
 }
 
-#[derive(Drop)]
+#[derive(Clone, Copy)]
 pub struct Tally {
     pub sums: Sums,
     pub kept: Kept,

@@ -48,7 +48,7 @@ pub fn exit_limits(p: Price, q: Price) -> Limits
 }
 
 // Which rules each product passed keeps.
-#[derive(Drop)]
+#[derive(Clone, Copy)]
 pub struct Kept {
     // 8: b + d + r is not above the product cap.
     pub caps: bool,

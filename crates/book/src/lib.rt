@@ -1,5 +1,7 @@
 // The lent bytes are the book: each number of the auction is read where it stands, and no copy is made of the rest. What a getter gives is
 // the same field of `loaded`, the definition of the auction in the bytes.
+#![tactic(auto)]
+
 ghost use Rattle.std.specs.Prelude.{◌≡◌, ◌+◌, ◌≤◌, ◌<◌, length, get_or};
 ghost use Rattle.rules.specs.Units.{price_of, amount_of};
 ghost use Rattle.rules.specs.Card.{no_line};

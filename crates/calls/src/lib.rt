@@ -1,4 +1,6 @@
 // The commands that change the state: each makes its call on a copy, and says which call it was.
+#![tactic(auto)]
+
 ghost use Rattle.std.specs.Prelude.{◌≤◌, ◌<◌};
 ghost use Rattle.calls.specs.Lines.{Made as Makes, open_word, file_word, bid_word, calculate_word, cutback_word, return_word};
 
@@ -15,7 +17,7 @@ use view::{put_calculated, put_cut, put_filed, put_opened, put_refused};
 
 // What a line made of the copy: no call of this kind; a call that was refused, or none since the line is wrong; a call that is done.
 // Of the last two how long the answer is.
-#[derive(Drop)]
+#[derive(Clone, Copy)]
 pub enum Made {
     Other,
     Said(usize),
@@ -204,7 +206,7 @@ fn calculate(
 }
 
 // How many products a bid or a cutback has to name, or how long the refusal is where neither is open to it.
-#[derive(Drop)]
+#[derive(Clone, Copy)]
 enum Products {
     Open(usize),
     Said(usize),

@@ -1,5 +1,7 @@
 // The bid card: "Bits packed most significant first: bidder 5, round 12; then for each product in rank: tranches 8", "up to
 // four lots, each a count of 8 bits and a price of 17", "switching priority 3. Zero bits fill the last byte."
+#![tactic(auto)]
+
 ghost use Rattle.std.specs.Prelude.{◌≡◌, cond, ◌+◌, ◌*◌, ◌-◌, ◌^◌, ◌≤◌, ◌<◌, length, replicate, ltb, eqb};
 ghost use Rattle.rules.specs.declared.Card.TheVariants.{Bid, Refused};
 ghost use Rattle.rules.specs.Count.{all_up_to};

@@ -14,7 +14,7 @@ use text::{ANSWER, Cursor, control_at, put, put_named, word, wrong_number};
 use view::put_form;
 
 // What comes after an answer.
-#[derive(Drop)]
+#[derive(Clone, Copy)]
 pub enum Next {
     Goes,
     // It is a question, and the line is done only if it is answered by yes.
@@ -27,7 +27,7 @@ pub enum Next {
 }
 
 // How long the answer is, and what comes after it.
-#[derive(Drop)]
+#[derive(Clone, Copy)]
 pub struct Said {
     pub n: usize,
     pub next: Next,

@@ -20,7 +20,7 @@ const LINE: usize = 2049;
 
 // How a run goes: whether each line is written before its answer, whether it ends at the first that is not answered ok, and whether a
 // person types, who is asked before what cannot be undone.
-#[derive(Drop)]
+#[derive(Clone, Copy)]
 pub struct Manner {
     pub echoes: bool,
     pub bails: bool,
@@ -29,7 +29,7 @@ pub struct Manner {
 
 // How it has gone so far: whether a line was answered, the status that the run would end with, whether it ends now, whether it bails, and
 // how long the line is that a question stands for; 0 where none does.
-#[derive(Drop)]
+#[derive(Clone, Copy)]
 pub struct Course {
     pub begun: bool,
     pub status: u8,
@@ -321,7 +321,7 @@ fn respond_no(course: Course, out: &mut [u8; ANSWER]) -> Course {
     course.broken()
 }
 
-#[derive(Drop)]
+#[derive(Clone, Copy)]
 enum Reply {
     // No question stands, or the line is no reply: it is a line like any other, and drops the question.
     Other,
@@ -449,7 +449,7 @@ fn next_start(buf: &[u8], e: usize, full: usize) -> usize
 }
 
 // The place after the lines that were answered, and how it has gone.
-#[derive(Drop)]
+#[derive(Clone, Copy)]
 struct Lines {
     at: usize,
     course: Course,
@@ -546,7 +546,7 @@ fn after_full(buf: &mut [u8], ended: bool) -> Input {
 }
 
 // What is read of the next line, and how it has gone.
-#[derive(Drop)]
+#[derive(Clone, Copy)]
 struct Turn {
     input: Input,
     course: Course,

@@ -160,7 +160,7 @@ const CHECK: u8 = 1;
 const RETURNED: u8 = 2;
 
 // What was asked for, and which arguments name the box and, for a check, a journal; 0 where none does.
-#[derive(Drop)]
+#[derive(Clone, Copy)]
 struct Options {
     task: u8,
     tells: bool,

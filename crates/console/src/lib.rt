@@ -1,6 +1,8 @@
 // The console: the calls of documents 01 and 02 on lent bytes, and nothing else. Each call's contract is its one definition in the
 // crate rules, specs/Calls.antt: its answer and every byte that it may write, for every input. `Leaves` and `Gives` are the shape of a
 // contract; any two outcomes that have it coincide (rules/Settling: leaves-one, gives-one).
+#![tactic(auto)]
+
 ghost use Rattle.std.specs.Prelude.{◌≡◌};
 ghost use Rattle.rules.specs.declared.Calculation.TheVariants as calculation;
 ghost use Rattle.rules.specs.Answers.{Leaves, Gives};

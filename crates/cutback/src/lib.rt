@@ -1,4 +1,6 @@
 // Document 02, request 3: "Volume cutback after round 1": whether it may be done, the auction that it leaves, and the helper.
+#![tactic(auto)]
+
 ghost use Rattle.std.specs.Prelude.{◌≡◌, ◌%◌, ◌<◌, min, length, replicate};
 ghost use Rattle.rules.specs.Count.{sum_up_to, list_of};
 ghost use Rattle.rules.specs.Allowed.{limits};

@@ -1,4 +1,6 @@
 // Filing a card: document 01, "The last valid card in a round stands; a refused one leaves the earlier one standing."
+#![tactic(auto)]
+
 ghost use Rattle.std.specs.Prelude.{◌≡◌, ◌<◌};
 ghost use Rattle.rules.specs.Bits.{set_in};
 ghost use Rattle.rules.specs.declared.Card.TheVariants.{Bid};

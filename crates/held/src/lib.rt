@@ -1,6 +1,8 @@
 // "What is held" of document 01, and the part of "Calculating", step 5, that only reads: excess supply and the stop.
 // Every sum is of u16 fields, at most 32 or 8 of them, and is taken where it cannot wrap whatever the state holds.
 // Of two forms of a function the one that ends in `_by` is handed what is held of each product, and the other sums it (`sums`).
+#![tactic(auto)]
+
 ghost use Rattle.std.specs.Prelude.{◌≡◌, ◌≤◌, ◌<◌, length, eqb};
 ghost use Rattle.rules.specs.Settings.{setup, target_of};
 ghost use Rattle.rules.specs.Held.{held, standing, below, above, standing_of, ticked, above_zero, excess};

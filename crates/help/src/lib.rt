@@ -1,4 +1,6 @@
 // What the desk says to `help` and `?`. The reader knows the trade and has not read the documents.
+#![tactic(auto)]
+
 mod auction;
 mod cards;
 mod desk;

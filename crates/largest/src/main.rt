@@ -5,6 +5,8 @@
 // `k` calculates it, `c` only counts its cards, which judges the state as every call does, `b` writes its bytes, and `a` those after the
 // calculation; `p` and `n` do as `k` and `a` by the plain engine, the products backwards. Apart from a state, `d` reads the largest card, and
 // `e` writes it.
+#![tactic(auto)]
+
 ghost use Rattle.std.specs.Prelude.{◌≡◌, length};
 
 use layout::{FREE, PHASE, ROUND, SEAT, STATE};

@@ -1,6 +1,7 @@
 // Where each number of the state stands in its bytes: every place follows from the one before it and that one's width, so that a new
 // field is one line here. The definitions say the same in the crate rules, specs/Layout.antt; whatever reads or writes the bytes is
 // proved against those.
+#![tactic(auto)]
 
 // ---- The head
 

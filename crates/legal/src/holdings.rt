@@ -61,7 +61,7 @@ fn record_stands(used: bool, p: Price, q: Price, cap: Tranches, r: Record) -> bo
 }
 
 // What one pass over a product's records finds: what is held and kept of it, and whether they stand.
-#[derive(Drop)]
+#[derive(Clone, Copy)]
 pub struct Column {
     pub held: u32,
     pub kept: u32,
@@ -100,7 +100,7 @@ fn column_of(s: &[u8], p: usize) -> Column
 }
 
 // The same of each product, and whether all records stand.
-#[derive(Drop)]
+#[derive(Clone, Copy)]
 pub struct Columns {
     pub held: [u32; 8],
     pub kept: [u32; 8],

@@ -1,5 +1,7 @@
 // Document 01, "Standing means": whether lent bytes are a state that may stand. What each clause says is in the crate rules,
 // specs/Legal.antt.
+#![tactic(auto)]
+
 mod holdings;
 mod phases;
 

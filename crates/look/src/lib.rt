@@ -1,11 +1,13 @@
 // What the system says of a file. `libc::stat` fills a struct behind a `&mut`, which the borrow checker does not cover:
 // `ask` alone makes that reference and is proved by hand, and whoever calls `seen_of` needs no walk.
+#![tactic(auto)]
+
 ghost use Rattle.libc.specs.Io.{Ended};
 
 use libc::types::{stat, timespec};
 
 // found: whether stat answered 0. Where it did not, the numbers say nothing.
-#[derive(Drop)]
+#[derive(Clone, Copy)]
 pub struct Seen {
     pub found: bool,
     pub mode: u32,
@@ -14,7 +16,7 @@ pub struct Seen {
 }
 
 // What stat answered, and what it left in the struct.
-#[derive(Drop)]
+#[derive(Clone, Copy)]
 struct Asked {
     answer: i32,
     st: stat,

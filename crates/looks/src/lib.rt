@@ -1,4 +1,6 @@
 // The commands that look at the state or at a card, and the suggested volume.
+#![tactic(auto)]
+
 use asked::{Numbers, One, ends, groups, one_byte, one_number, two_bytes};
 use calls::{bytes_of, card_length, not_written, other_length, put_card, refused};
 use check::same;

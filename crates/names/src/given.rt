@@ -34,7 +34,7 @@ fn bracket(name: &[u8]) -> usize {
 
 // Whose name a line gives, the place of the number, and where the name stands; `said` is the length of the error where something is wrong,
 // otherwise 0.
-#[derive(Drop)]
+#[derive(Clone, Copy)]
 pub struct Naming {
     pub said: usize,
     pub bidder: bool,

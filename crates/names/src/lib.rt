@@ -1,4 +1,6 @@
 // Names of bidders and products, which stand beside their numbers in every answer. No call knows them.
+#![tactic(auto)]
+
 ghost use Rattle.std.specs.Prelude.{◌<◌, ◌≤◌, length};
 
 mod given;
@@ -26,7 +28,7 @@ pub fn none() -> [u8; NAMES] {
 }
 
 // Whose name it is.
-#[derive(Drop)]
+#[derive(Clone, Copy)]
 pub enum Whose {
     Bidder(usize),
     Product(usize),

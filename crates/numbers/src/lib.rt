@@ -1,5 +1,7 @@
 // "Numbers answered": the first number that applies, for each call that is lent a state and needs one that stands. 0 stands for
 // none: the call does its work.
+#![tactic(auto)]
+
 ghost use Rattle.std.specs.Prelude.{◌≡◌};
 ghost use Rattle.rules.specs.Round.{overrides_fit};
 ghost use Rattle.rules.specs.Calls.{count_number, calculate_number, plain_number, cutback_number, report_number, result_number};

@@ -1,4 +1,6 @@
 // "Calculating", steps 3 and 4, on products that didn't tick.
+#![tactic(auto)]
+
 ghost use Rattle.std.specs.Prelude.{◌≡◌, ◌&&◌, not, cond, ◌*◌, ◌≤◌, ◌<◌, replicate, eqb, ltb};
 ghost use Rattle.rules.specs.Units.{tranches};
 ghost use Rattle.rules.specs.Count.{first_up_to};
@@ -167,7 +169,7 @@ fn next_turn(ps: &[[u32; WIDTH]; 256], order: &[u8], p: usize, bidders: usize, k
 }
 
 // What one outbid tranche changes: a place, its owner's free eligibility, and the count; and who is known to be next.
-#[derive(Drop)]
+#[derive(Clone, Copy)]
 struct Loss {
     pub at: usize,
     pub place: Place,
@@ -225,7 +227,7 @@ fn lose(ps: &[[u32; WIDTH]; 256], order: &[u8], p: usize, bidders: usize, known:
 }
 
 // Each bidder's free eligibility after step 4, and the tranches outbid.
-#[derive(Drop)]
+#[derive(Clone, Copy)]
 pub struct Freed {
     pub free: [Tranches; 32],
     pub count: u32,

@@ -1,4 +1,6 @@
 // The status goes to descriptor 3 where the launcher asks for it: a program ends with 0.
+#![tactic(auto)]
+
 const STATUS: i32 = 3;
 
 // page --tell BOX [JOURNAL]

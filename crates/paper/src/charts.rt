@@ -106,7 +106,7 @@ fn step_of(range: u32, most: u16) -> u32 {
 }
 
 // The scale's lower and upper ends, and the step between its lines.
-#[derive(Drop)]
+#[derive(Clone, Copy)]
 struct Scale {
     base: u32,
     top: u32,

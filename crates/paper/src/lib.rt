@@ -1,5 +1,7 @@
 // The pieces of a page: text that is escaped, prices, names, what is known of each round, and the charts made of it. Each function gives
 // the place after what it put.
+#![tactic(auto)]
+
 mod brief;
 mod charts;
 mod form;

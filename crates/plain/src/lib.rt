@@ -1,5 +1,7 @@
 // Document 02, request 10: "a plain engine for step 2 that takes any order of the products and goes through it again and again, keeping
 // as many as are lacking at each visit." One tranche is kept as the box's own engine keeps it, on the same table and the same numbers.
+#![tactic(auto)]
+
 ghost use Rattle.std.specs.Prelude.{◌≡◌, cond, ◌-◌, ◌<◌, eqb};
 ghost use Rattle.rules.specs.Keep.{kept};
 ghost use Rattle.rules.specs.Plain.{keep_many, visits, plain_all};

@@ -1,5 +1,7 @@
 // "Next price of a product above target", and what step 5 goes by: the standings above zero and the stop. All is worked out of what is
 // handed in, so that a round and a cutback write the book once, when it is known.
+#![tactic(auto)]
+
 ghost use Rattle.std.specs.Prelude.{◌≡◌, ℕ, ◌≤◌, ◌<◌, get_or};
 ghost use Rattle.rules.specs.Held.{standing, above_zero};
 ghost use Rattle.rules.specs.Layout.{loaded};
@@ -43,7 +45,7 @@ fn next_price(s: &[u8], given: Override, over: u32, target: u16, going: Price) -
 }
 
 // A product's standing above zero, or 0, its next price, and the price before its latest fall.
-#[derive(Drop)]
+#[derive(Clone, Copy)]
 pub struct Next {
     pub over: u32,
     pub going: GoingPrice,
@@ -71,7 +73,7 @@ fn work_out(s: &[u8], given: Override, held: u32, target: u16, going: Price, las
 }
 
 // Each product's target, its going price, the price before its latest fall, and the override given for it.
-#[derive(Drop)]
+#[derive(Clone, Copy)]
 pub struct Lanes {
     pub target: [u16; 8],
     pub price: [Quote; 8],
@@ -80,7 +82,7 @@ pub struct Lanes {
 }
 
 // The standings above zero, summed; whether the auction stops; and the prices and marks if it goes on.
-#[derive(Drop)]
+#[derive(Clone, Copy)]
 pub struct Outlook {
     pub over: u64,
     pub stops: bool,

@@ -1,6 +1,8 @@
 // After the number and the words of a refusal: `: REMARK`, what is wrong and what would be allowed. A place is found by the tests that the
 // number is judged by, so that no limit stands here. Each function puts its remark at a place of the answer and gives the place after it; the
 // place itself where it has nothing to say. The line's end is left to the caller.
+#![tactic(auto)]
+
 mod bidding;
 mod cards;
 mod cutting;

@@ -1,4 +1,6 @@
 // Document 01, "Report and result": what one bidder is told, and what is awarded.
+#![tactic(auto)]
+
 ghost use Rattle.std.specs.Prelude.{◌≡◌, false, ℕ, ◌<◌, max, replicate};
 ghost use Rattle.rules.specs.Count.{list_of};
 ghost use Rattle.rules.specs.Units.{price_of, quote, going_price, tranches};

@@ -1,5 +1,7 @@
 // "Calculating": a whole round, and its steps 1 and 5. The round works on one table of places beside the lent bytes, and writes its
 // sections where they stand.
+#![tactic(auto)]
+
 ghost use Rattle.std.specs.Prelude.{◌≡◌, cond, ◌≤◌, get_or};
 ghost use Rattle.rules.specs.Units.{amount_of};
 ghost use Rattle.rules.specs.Count.{sum_up_to};
@@ -174,7 +176,7 @@ fn settle(s: &mut [u8], ps: &[[u32; WIDTH]; 256], free: [Tranches; 32], l: Lanes
 // ---- The whole
 
 // "The calculation answers the count of tranches kept in step 2 and outbid in step 4."
-#[derive(Drop)]
+#[derive(Clone, Copy)]
 pub struct Tally {
     pub kept: u32,
     pub outbid: u32,

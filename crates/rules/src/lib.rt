@@ -1,5 +1,7 @@
 // The words of documents 01 and 02 as types, with the small methods that belong to them. What they mean stands in specs/, in the
 // order of document 01.
+#![tactic(auto)]
+
 ghost use Rattle.std.specs.Prelude.{◌≡◌, ◌+◌, ◌-◌, ◌≤◌, ◌<◌, min};
 ghost use Rattle.rules.specs.Units.{kwh, mw_day, unit_number, unit_of, amount_of, price_of};
 ghost use Rattle.rules.specs.Allowed.{limits, allows};
@@ -14,28 +16,28 @@ ghost use Rattle.rules.specs.Report.{range_of};
 
 // ---- Counters kept apart
 
-#[derive(Drop)]
+#[derive(Clone, Copy)]
 pub struct Tranches(pub u16);
 
 // Thousandths of a cent per kWh.
-#[derive(Drop)]
+#[derive(Clone, Copy)]
 pub struct KwhPrice(pub u32);
 
 // Cents per MW-day.
-#[derive(Drop)]
+#[derive(Clone, Copy)]
 pub struct MwDayPrice(pub u32);
 
-#[derive(Drop)]
+#[derive(Clone, Copy)]
 pub struct BasisPoints(pub u16);
 
-#[derive(Drop)]
+#[derive(Clone, Copy)]
 pub enum Unit {
     Kwh,
     MwDay,
 }
 
 // A price of either unit: the units are not mixed without a match.
-#[derive(Drop)]
+#[derive(Clone, Copy)]
 pub enum Price {
     Kwh(KwhPrice),
     MwDay(MwDayPrice),
@@ -129,14 +131,14 @@ impl Price {
 }
 
 // An array holds a price inside this struct.
-#[derive(Drop)]
+#[derive(Clone, Copy)]
 pub struct Quote {
     pub price: Price,
 }
 
 // ---- Document 02, request 1: "an optional decrement", the manager's for one product in one calculation
 
-#[derive(Drop)]
+#[derive(Clone, Copy)]
 pub enum Override {
     None,
     Points(BasisPoints),
@@ -183,13 +185,13 @@ impl Override {
 }
 
 // An array holds an override inside this struct.
-#[derive(Drop)]
+#[derive(Clone, Copy)]
 pub struct Chosen {
     pub decrement: Override,
 }
 
 // A price, "with whether it was overridden".
-#[derive(Drop)]
+#[derive(Clone, Copy)]
 pub struct GoingPrice {
     pub price: Price,
     pub overridden: bool,
@@ -198,7 +200,7 @@ pub struct GoingPrice {
 // ---- What a number may be
 
 // From the least to the most, both with it; nothing where the least is above the most.
-#[derive(Drop)]
+#[derive(Clone, Copy)]
 pub struct Limits {
     pub least: u32,
     pub most: u32,
@@ -227,7 +229,7 @@ impl Limits {
 
 // ---- Settings, as a manager gives them
 
-#[derive(Drop)]
+#[derive(Clone, Copy)]
 pub struct Product {
     pub target: Tranches,
     pub cap: Tranches,
@@ -235,13 +237,13 @@ pub struct Product {
 }
 
 // A decrement row: from this percentage on, this decrement.
-#[derive(Drop)]
+#[derive(Clone, Copy)]
 pub struct Row {
     pub percent: u16,
     pub decrement: BasisPoints,
 }
 
-#[derive(Drop)]
+#[derive(Clone, Copy)]
 pub struct Settings {
     pub unit: Unit,
     pub products: u8,
@@ -256,7 +258,7 @@ pub struct Settings {
 // ---- The bid card
 
 // Tranches at one exit price: withdrawn on a card, retained in a record.
-#[derive(Drop)]
+#[derive(Clone, Copy)]
 pub struct Lot {
     pub count: Tranches,
     pub exit: u32,
@@ -331,7 +333,7 @@ impl Lot {
 }
 
 // "Prices strictly rise, used lots come first, unused ones are zero."
-#[derive(Drop)]
+#[derive(Clone, Copy)]
 pub struct Lots {
     pub one: Lot,
     pub two: Lot,
@@ -515,7 +517,7 @@ impl Lots {
 }
 
 // A card's fields for one product.
-#[derive(Drop)]
+#[derive(Clone, Copy)]
 pub struct Line {
     pub tranches: Tranches,
     pub withdrawn: Lots,
@@ -542,21 +544,21 @@ impl Line {
 }
 
 // One field of a card, or that it ends past the card.
-#[derive(Drop)]
+#[derive(Clone, Copy)]
 pub enum Field {
     Value(u32),
     Past,
 }
 
 // A card read is either a bid or a numbered refusal.
-#[derive(Drop)]
+#[derive(Clone, Copy)]
 pub enum Card {
     Bid { bidder: u8, round: u16 },
     Refused(u8),
 }
 
 // The card's answer, with the bid's lines beside it.
-#[derive(Drop)]
+#[derive(Clone, Copy)]
 pub struct CardRead {
     pub card: Card,
     pub lines: [Line; 8],
@@ -565,7 +567,7 @@ pub struct CardRead {
 // ---- What is held
 
 // One bidder on one product: g at the going price, d denied switches, r retained withdrawals, "kept per lot".
-#[derive(Drop)]
+#[derive(Clone, Copy)]
 pub struct Record {
     pub going: Tranches,
     pub denied: Tranches,
@@ -688,7 +690,7 @@ impl Record {
 // ---- The whole state, in the order and grouping of its bytes
 
 // What an auction has one of: amounts are in its one unit.
-#[derive(Drop)]
+#[derive(Clone, Copy)]
 pub struct Terms {
     pub unit: u8,
     pub products: u8,
@@ -697,7 +699,7 @@ pub struct Terms {
 }
 
 // One product: its settings, the going price p, the price q before its latest fall, and 1 where p was overridden.
-#[derive(Drop)]
+#[derive(Clone, Copy)]
 pub struct Lane {
     pub target: Tranches,
     pub cap: Tranches,
@@ -708,28 +710,28 @@ pub struct Lane {
 }
 
 // One bidder: its initial eligibility, and f.
-#[derive(Drop)]
+#[derive(Clone, Copy)]
 pub struct Seat {
     pub initial: Tranches,
     pub free: Tranches,
 }
 
 // A decrement table: the rows in use, and the rows.
-#[derive(Drop)]
+#[derive(Clone, Copy)]
 pub struct Decrements {
     pub rows: u8,
     pub row: [Row; 8],
 }
 
 // Who has filed, and the lines filed.
-#[derive(Drop)]
+#[derive(Clone, Copy)]
 pub struct Cards {
     pub filed: u32,
     pub lines: [Line; 256],
 }
 
 // A record or a line of bidder b on product p stands at b * 8 + p.
-#[derive(Drop)]
+#[derive(Clone, Copy)]
 pub struct Auction {
     pub phase: u8,
     pub round: u16,
@@ -744,14 +746,14 @@ pub struct Auction {
 // ---- The settings in the state, as a value
 
 // One product's settings.
-#[derive(Drop)]
+#[derive(Clone, Copy)]
 pub struct Item {
     pub target: Tranches,
     pub cap: Tranches,
     pub start: u32,
 }
 
-#[derive(Drop)]
+#[derive(Clone, Copy)]
 pub struct Setup {
     pub terms: Terms,
     pub item: [Item; 8],
@@ -759,7 +761,7 @@ pub struct Setup {
     pub decrements: Decrements,
 }
 
-#[derive(Drop)]
+#[derive(Clone, Copy)]
 pub enum Phase {
     Issued,
     Open,
@@ -794,7 +796,7 @@ impl Phase {
 // ---- Calculating
 
 // What a search finds.
-#[derive(Drop)]
+#[derive(Clone, Copy)]
 pub enum Pick {
     At(usize),
     Nobody,
@@ -802,7 +804,7 @@ pub enum Pick {
 
 // One bidder on one product while a round is calculated: its record, and of its bid the withdrawals not kept,
 // the switches not denied and the increases not cancelled.
-#[derive(Drop)]
+#[derive(Clone, Copy)]
 pub struct Place {
     pub holds: Record,
     pub leaving: Lots,
@@ -878,21 +880,21 @@ impl Place {
 }
 
 // After step 2, with the count of tranches kept.
-#[derive(Drop)]
+#[derive(Clone, Copy)]
 pub struct Kept {
     pub places: [Place; 256],
     pub count: u32,
 }
 
 // After step 4, with the count of tranches outbid.
-#[derive(Drop)]
+#[derive(Clone, Copy)]
 pub struct Outbid {
     pub places: [Place; 256],
     pub free: [Tranches; 32],
     pub count: u32,
 }
 
-#[derive(Drop)]
+#[derive(Clone, Copy)]
 pub struct Calculated {
     pub auction: Auction,
     pub kept: u32,
@@ -902,7 +904,7 @@ pub struct Calculated {
 // ---- Answers: each call's own, or the number of its refusal
 
 // Of open, file, cutback, return and write.
-#[derive(Drop)]
+#[derive(Clone, Copy)]
 pub enum Answer {
     Done,
     Refused(u8),
@@ -914,13 +916,13 @@ pub enum Count {
     Refused(u8),
 }
 
-#[derive(Drop)]
+#[derive(Clone, Copy)]
 pub enum Calculation {
     Done { kept: u32, outbid: u32 },
     Refused(u8),
 }
 
-#[derive(Drop)]
+#[derive(Clone, Copy)]
 pub struct Range {
     pub low: u32,
     pub high: u32,
@@ -949,7 +951,7 @@ impl Range {
     }
 }
 
-#[derive(Drop)]
+#[derive(Clone, Copy)]
 pub enum Report {
     Given {
         free: Tranches,
@@ -960,28 +962,28 @@ pub enum Report {
 }
 
 // A report's answer, with the bidder's own records and the going prices beside it.
-#[derive(Drop)]
+#[derive(Clone, Copy)]
 pub struct Reported {
     pub report: Report,
     pub records: [Record; 8],
     pub prices: [GoingPrice; 8],
 }
 
-#[derive(Drop)]
+#[derive(Clone, Copy)]
 pub enum Award {
     Given,
     Refused(u8),
 }
 
 // The suggested volume, in tranches.
-#[derive(Drop)]
+#[derive(Clone, Copy)]
 pub enum Volume {
     Suggested(u32),
     Refused(u8),
 }
 
 // The result's answer, with the awards of bidder b on product p at b * 8 + p and one price a product beside it.
-#[derive(Drop)]
+#[derive(Clone, Copy)]
 pub struct Awarded {
     pub award: Award,
     pub tranches: [Tranches; 256],

@@ -1,5 +1,7 @@
 // Whether the settings of an auction are within their limits: document 01, "Settings". The limits stand in the crate rules,
 // specs/Settings.antt. They are judged by a search for the first that is not allowed, which is also what is said of it.
+#![tactic(auto)]
+
 mod opening;
 
 ghost use Rattle.std.specs.Prelude.{◌≡◌, false, not, ◌&&◌, ◌≤◌, ◌<◌};
@@ -137,7 +139,7 @@ fn decrement_limits(least: u16, d: Decrements, i: usize) -> Limits
 
 // ---- The first that is not
 
-#[derive(Drop)]
+#[derive(Clone, Copy)]
 pub enum What {
     Target,
     Cap,
@@ -149,7 +151,7 @@ pub enum What {
 }
 
 // A setting of a product, a bidder or a row, and whether it is one that is not allowed.
-#[derive(Drop)]
+#[derive(Clone, Copy)]
 pub struct Fault {
     pub found: bool,
     pub what: What,

@@ -1,6 +1,8 @@
 // Each public call of the console made twice on the same inputs, with the same answer and the same bytes both times. All that is known of a
 // call here is its contract. So the contract alone settles what the call gives and leaves: "any two outcomes satisfying a contract
 // coincide". A contract that left a choice would leave this crate unproved.
+#![tactic(auto)]
+
 ghost use Rattle.std.specs.Prelude.{◌≡◌};
 
 use rules::{
@@ -9,43 +11,43 @@ use rules::{
 };
 
 // The two answers of a call, by their type.
-#[derive(Drop)]
+#[derive(Clone, Copy)]
 pub struct Answers {
     pub one: Answer,
     pub other: Answer,
 }
 
-#[derive(Drop)]
+#[derive(Clone, Copy)]
 pub struct Counts {
     pub one: Count,
     pub other: Count,
 }
 
-#[derive(Drop)]
+#[derive(Clone, Copy)]
 pub struct Calculations {
     pub one: Calculation,
     pub other: Calculation,
 }
 
-#[derive(Drop)]
+#[derive(Clone, Copy)]
 pub struct Reports {
     pub one: Reported,
     pub other: Reported,
 }
 
-#[derive(Drop)]
+#[derive(Clone, Copy)]
 pub struct Results {
     pub one: Awarded,
     pub other: Awarded,
 }
 
-#[derive(Drop)]
+#[derive(Clone, Copy)]
 pub struct Cards {
     pub one: CardRead,
     pub other: CardRead,
 }
 
-#[derive(Drop)]
+#[derive(Clone, Copy)]
 pub struct Volumes {
     pub one: Volume,
     pub other: Volume,

@@ -1,5 +1,7 @@
 // `--sheet BOX [JOURNAL]`: one page of an auction, to be printed or mailed, made from the box's journal. The journal is played twice:
 // first to see that it plays, and which calculation of each round stands; then to tell of each round from the states before and after it.
+#![tactic(auto)]
+
 mod ends;
 mod head;
 mod rounds;

@@ -11,7 +11,7 @@ use text::{ANSWER, put};
 // ---- What was done, summed
 
 // As the moves of a bidder on a product, of all lots together.
-#[derive(Drop)]
+#[derive(Clone, Copy)]
 struct Sums {
     bid: u32,
     retained: u32,

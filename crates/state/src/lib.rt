@@ -1,4 +1,6 @@
 // "all zero as issued": whether the lent bytes are so, and so again on return.
+#![tactic(auto)]
+
 ghost use Rattle.std.specs.Prelude.{◌≡◌, length, replicate};
 ghost use Rattle.rules.specs.Layout.{all_zero};
 

@@ -29,7 +29,7 @@ pub fn is_wrong(kind: Kind) -> bool {
 // ---- A changed state, kept
 
 // Whether the new state is kept; how long the answer is; whether the desk has to end, since the box can be relied on no more.
-#[derive(Drop)]
+#[derive(Clone, Copy)]
 pub struct Outcome {
     pub kept: bool,
     pub said: usize,
@@ -204,7 +204,7 @@ pub fn keep(
 // ---- The copy before what cannot be undone, read back
 
 // What there is to undo.
-#[derive(Drop)]
+#[derive(Clone, Copy)]
 pub enum Undo {
     // The copy is in the lent state.
     Copy,

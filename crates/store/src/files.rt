@@ -10,7 +10,7 @@ use text::{read_again, write_whole};
 const ROOM: usize = STATE + 1;
 
 // What a file held.
-#[derive(Drop)]
+#[derive(Clone, Copy)]
 pub enum Loaded {
     // There is no such file: the state is as it was.
     Missing,
@@ -22,7 +22,7 @@ pub enum Loaded {
     Unread(i32),
 }
 
-#[derive(Drop)]
+#[derive(Clone, Copy)]
 pub enum Filled {
     Bytes(usize),
     Failed,

@@ -139,7 +139,7 @@ pub fn fits(bytes: &[u8], from: usize, to: usize, before: &[u8; SUM], state: &[u
     check::same(&has, &wants)
 }
 
-#[derive(Drop)]
+#[derive(Clone, Copy)]
 pub enum Trail {
     // There is no journal, or one without a whole line.
     None,
@@ -154,7 +154,7 @@ pub enum Trail {
 }
 
 // How a journal ends, its last sum, and the place after its last whole line.
-#[derive(Drop)]
+#[derive(Clone, Copy)]
 pub struct Trace {
     pub trail: Trail,
     pub sum: [u8; SUM],

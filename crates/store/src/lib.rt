@@ -1,5 +1,7 @@
 // A box's state in a file: read whole, and written anew under another name that is then put in place; a copy of it before what cannot be
 // undone; and the journal of the calls.
+#![tactic(auto)]
+
 mod boxed;
 mod files;
 mod journal;

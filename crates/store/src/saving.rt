@@ -9,7 +9,7 @@ use look::Seen;
 use text::ANSWER;
 
 // What kind of call it was that changed the state.
-#[derive(Drop)]
+#[derive(Clone, Copy)]
 pub enum Act {
     // A card, or a cutback.
     Plain,
@@ -21,7 +21,7 @@ pub enum Act {
 }
 
 // Where saving stopped.
-#[derive(Drop)]
+#[derive(Clone, Copy)]
 pub enum Stage {
     Done,
     LongName,
@@ -44,7 +44,7 @@ pub enum Stage {
 }
 
 // The stage, and the system's number for the reason.
-#[derive(Drop)]
+#[derive(Clone, Copy)]
 pub struct Saved {
     pub stage: Stage,
     pub why: i32,
@@ -178,7 +178,7 @@ fn prepare(act: Act, path: &[u8], before: &[u8], state: &[u8; STATE], seen: Seen
 
 // ---- The journal's line
 
-#[derive(Drop)]
+#[derive(Clone, Copy)]
 enum Aside {
     Done,
     Taken,
@@ -261,7 +261,7 @@ fn bring_back(journal: &[u8], state: &[u8; STATE], copy: &[u8; STATE]) -> bool {
 }
 
 // Where lines go: into a new journal, or after the last whole line of one that is there.
-#[derive(Drop)]
+#[derive(Clone, Copy)]
 struct Spot {
     fresh: bool,
     end: i64,
@@ -445,7 +445,7 @@ fn sum_after(lines: &[u8; ANSWER], n: usize, sum: [u8; SUM]) -> [u8; SUM] {
 }
 
 // Where the call's line stands, or why it does not.
-#[derive(Drop)]
+#[derive(Clone, Copy)]
 struct Logged {
     saved: Saved,
     spot: Spot,

@@ -1,5 +1,7 @@
 // The auction is written where it stands in the lent bytes: a call writes the parts that it changes, and leaves the rest. What each
 // function ensures holds for every auction that the bytes hold before it, so that one write follows another without reading back.
+#![tactic(auto)]
+
 ghost use Rattle.std.specs.Prelude.{◌≡◌, ◌+◌, ◌≤◌, ◌<◌, length, get_or, take, replicate};
 ghost use Rattle.std.proofs.lemmas.List.Edits.{sets};
 ghost use Rattle.rules.specs.declared.Auction.{Auction};

@@ -1,6 +1,8 @@
 // What a calculation did, one bidder and one product at a time, told from the state before it and the state after it. Document 01 lets
 // kept tranches stand only where held equals target, so on a product that ticked none stands before, and those that stand after are the
 // round's own; on any other product nothing is kept anew, and what is gone was deemed bid or outbid.
+#![tactic(auto)]
+
 ghost use Rattle.std.specs.Prelude.{◌<◌};
 
 use layout::STATE;
@@ -83,7 +85,7 @@ fn less(a: u32, b: u32) -> u32 {
 }
 
 // Of one bidder on one product.
-#[derive(Drop)]
+#[derive(Clone, Copy)]
 pub struct Moves {
     // Bid, by card or default.
     pub bid: u32,

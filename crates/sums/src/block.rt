@@ -50,7 +50,7 @@ fn schedule(block: &[u8; 64]) -> [u32; 64]
 }
 
 // The eight working variables.
-#[derive(Drop)]
+#[derive(Clone, Copy)]
 pub struct Work {
     pub a: u32,
     pub b: u32,

@@ -1,4 +1,6 @@
 // SHA-256 of FIPS 180-4 over bytes, as many at a time as are at hand.
+#![tactic(auto)]
+
 mod block;
 mod words;
 
@@ -7,7 +9,7 @@ ghost use Rattle.sums.specs.Sum.{Holds, padded, sha256_digits, after_byte, lengt
 
 // A sum begun: the hash value after the whole blocks so far, the bytes of the next one, and how many bytes there were in all,
 // modulo 2^64.
-#[derive(Drop)]
+#[derive(Clone, Copy)]
 pub struct Sum {
     words: [u32; 8],
     block: [u8; 64],

@@ -1,5 +1,7 @@
 // The places of a round as rows of numbers, lent: no copy of the table is made. The place of bidder b on product p stands in row
 // b * 8 + p.
+#![tactic(auto)]
+
 mod draw;
 
 ghost use Rattle.std.specs.Prelude.{◌≡◌, [], ◌≤◌, ◌<◌, get_or, set};
@@ -151,7 +153,7 @@ pub fn held_all(ps: &[[u32; WIDTH]; 256], bidders: usize) -> [u32; 8]
 pub const NOTHING: u64 = 4294967297;
 
 // The lowest turn so far, and where in the draw its bidder stands.
-#[derive(Drop)]
+#[derive(Clone, Copy)]
 pub struct Next {
     pub at: usize,
     pub turn: u64,

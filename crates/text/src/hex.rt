@@ -6,7 +6,7 @@ ghost use Rattle.text.specs.Hex.{hex_up_to, hex_at};
 use crate::{Cursor, Run, run_end, word};
 
 // What is found at a cursor.
-#[derive(Drop)]
+#[derive(Clone, Copy)]
 pub enum Hex {
     // So many bytes, and the place after the word.
     Bytes(usize, Cursor),

@@ -4,7 +4,7 @@ ghost use Rattle.text.specs.Lines.{line_end, between, joined_in, back, kept_of, 
 
 use crate::lines::{join, line_end};
 
-#[derive(Drop)]
+#[derive(Clone, Copy)]
 pub struct Input {
     // How many bytes of the next line stand at the start of the buffer.
     pub end: usize,

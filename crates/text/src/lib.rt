@@ -1,4 +1,6 @@
 // The desk's text. A line that is typed is read by words: a byte up to 32 is a space, any other byte is part of a word.
+#![tactic(auto)]
+
 mod answer;
 mod hex;
 mod input;
@@ -17,20 +19,20 @@ pub use moved::{read_again, write_whole};
 pub use number::{Read, Take, read_number, take_number};
 
 // A place in a line.
-#[derive(Drop)]
+#[derive(Clone, Copy)]
 pub struct Cursor {
     pub at: usize,
 }
 
 // A word: its first place, and the one past its last. Both are the line's length where there is none.
-#[derive(Drop)]
+#[derive(Clone, Copy)]
 pub struct Span {
     pub from: usize,
     pub to: usize,
 }
 
 // What a run is of.
-#[derive(Drop)]
+#[derive(Clone, Copy)]
 pub enum Run {
     Spaces,
     Letters,

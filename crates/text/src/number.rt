@@ -5,7 +5,7 @@ ghost use Rattle.text.specs.Number.{digit_after, read_word, take_at};
 use crate::{Cursor, word};
 
 // What some digits make.
-#[derive(Drop)]
+#[derive(Clone, Copy)]
 pub enum Read {
     Value(u32),
     Large,
@@ -13,7 +13,7 @@ pub enum Read {
 }
 
 // What is found at a cursor. The number where a word is wrong is its first place.
-#[derive(Drop)]
+#[derive(Clone, Copy)]
 pub enum Take {
     Number(u32, Cursor),
     TooLarge(usize),

@@ -107,7 +107,7 @@ fn put_holdings(
 }
 
 // What a bidder has of all products.
-#[derive(Drop)]
+#[derive(Clone, Copy)]
 struct Totals {
     going: u32,
     denied: u32,

@@ -76,7 +76,7 @@ fn put_products(out: &mut [u8; ANSWER], at: usize, s: &[u8; STATE], b: usize) ->
 }
 
 // What a bid comes to.
-#[derive(Drop)]
+#[derive(Clone, Copy)]
 struct Sums {
     bid: u32,
     increased: u32,

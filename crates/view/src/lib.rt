@@ -1,5 +1,7 @@
 // Answers and the state as lines of text, put into an answer that is lent. The first line of an answer begins at the margin, further
 // lines with two spaces. Each function gives the place after what it put.
+#![tactic(auto)]
+
 mod answer;
 mod bidding;
 mod form;
