@@ -258,7 +258,7 @@ module _ (a : Auction) (targets caps : List Tranches) where
           let c = ap (λ u. cap_of u p) M.settings in
           omega (arith, none_kept b p hb hp, revised_cap (setup a) targets caps p (omega (arith, hm)));
       no_bidder = λ k l h. zero_past k l (S.no_bidder k l h);
-      no_product = λ k l h. zero_past k l (S.no_product_lem k l h);
+      no_product = λ k l h. zero_past k l (S.no_product k l h);
       eligible = λ b hb.
           let i : initial_of (setup (with ph ls)) b ≡ initial_of (setup a) b = ap (λ u. initial_of u b) M.settings ∙ revised_initial b in
           omega (arith, row_cut L held_in (λ r c. omega arith) b hb, S.eligible b hb);

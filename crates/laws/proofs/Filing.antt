@@ -50,7 +50,7 @@ module _ (a : Auction) (S : Stands a) (L : Long a) (o : is_open a ≡ true) (b :
     exits = S.exits;
     caps = S.caps;
     no_bidder = S.no_bidder;
-    no_product = S.no_product_lem;
+    no_product = S.no_product;
     eligible = S.eligible;
     no_free = S.no_free;
     slots = λ c h. slot_by c h (eqb c b) refl;

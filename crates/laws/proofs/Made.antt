@@ -130,7 +130,7 @@ module _ (a : Auction) where
     no_record b p hb hp out = zero_record _ (by (ltb b n) refl)
       where
         by : (t : Bool) → ltb b n ≡ t → record_zero (record_of a b p) ≡ true
-        by true e = let h = out (ltb-true b n e) in S.no_product_lem (b * 8 + p) (omega arith) (omega arith)
+        by true e = let h = out (ltb-true b n e) in S.no_product (b * 8 + p) (omega arith) (omega arith)
         by false e = let h = ltb-false b n e in S.no_bidder (b * 8 + p) (omega arith) (omega arith)
 
     no_bid : (b p : ℕ) → b < 32 → p < 8 → (b < n → m ≤ p) → NoBid (bid_on a b p)

@@ -135,7 +135,7 @@ module _ (s : List ℕ) (I : StandsIn s) where
 
   record_zero_lem : (k : ℕ) → k < 256 → (a.terms.bidders ≤ k / 8) ⊎ (a.terms.products ≤ k % 8) → record_zero (record_at a.records k) ≡ true
   record_zero_lem k h (inl l) = S.no_bidder k h l
-  record_zero_lem k h (inr l) = S.no_product_lem k h l
+  record_zero_lem k h (inr l) = S.no_product k h l
 
   line_zero_lem : (k : ℕ) → k < 256 → (has_filed a (k / 8) ≡ false) ⊎ (a.terms.products ≤ k % 8) → line_zero (line_from s (k * line_width + bids_from)) ≡ true
   line_zero_lem k h w =

@@ -166,7 +166,7 @@ module _ (a : Auction) (S : Stands a) where
   record_by k l true true e f =
       let z : k / 8 * 8 + k % 8 ≡ k = omega arith in
       subst (λ i. Small (record_at a.records i)) z (record_of_lem (k / 8) (k % 8) (ltb-true _ _ e) (ltb-true _ _ f))
-  record_by k l true false e f = zero_small (record_at a.records k) (S.no_product_lem k l (ltb-false _ _ f))
+  record_by k l true false e f = zero_small (record_at a.records k) (S.no_product k l (ltb-false _ _ f))
   record_by k l false u e f = zero_small (record_at a.records k) (S.no_bidder k l (ltb-false _ _ e))
 
   -- of one record

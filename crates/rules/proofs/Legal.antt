@@ -213,7 +213,7 @@ module _ (a : Auction) (S : Stands a) where
       let c = S.caps (k / 8) (k % 8) hb hp in
       let r : record_within (price_at a (k % 8)) (before_at a (k % 8)) (cap_of (setup a) (k % 8)) (record_of a (k / 8) (k % 8)) ≡ true = search shown in
       rw (e, f) (rw z at r)
-  record_by k l true false e f = rw (e, f) (S.no_product_lem k l (ltb-false _ _ f))
+  record_by k l true false e f = rw (e, f) (S.no_product k l (ltb-false _ _ f))
   record_by k l false u e f = rw e (S.no_bidder k l (ltb-false _ _ e))
 
   bidder_by : (b : ℕ) → b < 32 → (t : Bool) → ltb b a.terms.bidders ≡ t → bidder_stands a b ≡ true

@@ -1,5 +1,5 @@
 -- Laws of the parts of the state: the settings in it, and what a part anew leaves of them. Assumes nothing.
-use mathlib.Core.Path.{◌≡◌, refl, ap, ap₂}
+use mathlib.Core.Path.{◌≡◌, refl, ap, ap₂, ◌∙◌}
 use mathlib.Core.List.{List}
 use Prim.Native.Nat.{ℕ, ◌+◌, ◌<◌}
 use lib.ListN.{get_or}
@@ -22,7 +22,10 @@ excess_by t rs ss =
     + sum_up_to (λ b. (get_or ss b no_seat).free.0) t.terms.bidders
 
 pub excess_same : (a z : Auction) → setup z ≡ setup a → z.records ≡ a.records → z.seats ≡ a.seats → excess z ≡ excess a
-excess_same a z e r s = let x : excess_by (setup z) z.records z.seats ≡ excess_by (setup a) a.records a.seats = rw (e, r, s) refl in x
+excess_same a z e r s =
+    ap (λ t. excess_by t z.records z.seats) e
+    ∙ ap (λ rs. excess_by (setup a) rs z.seats) r
+    ∙ ap (λ ss. excess_by (setup a) a.records ss) s
 
 module _ (a : Auction) where
   -- ---- a setting is that of the lane or of the seat

@@ -394,7 +394,7 @@ no_bytes : Bytes []
 no_bytes = record { small = λ i. omega arith }
 
 one_byte : (x : ℕ) (s : List ℕ) → Bytes s → Bytes (x % 256 ∷ s)
-one_byte x s B = record { small = λ i. elim i [ zero ↦ omega arith | suc j ↦ B.small j ] }
+one_byte x s B = record { small = λ i. elim i as (λ j. get_or (x % 256 ∷ s) j 0 < 256) [ zero ↦ omega arith | suc j ↦ B.small j ] }
 
 more_bytes : (s t : List ℕ) → Bytes s → Bytes t → Bytes (s ++ t)
 more_bytes s t B C = record { small = λ i. by i (ltb i (length s)) refl }

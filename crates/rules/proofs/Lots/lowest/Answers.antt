@@ -1,0 +1,4 @@
+use Rattle.rules.proofs.Lots.lowest.Goals as goal
+
+pub returns : goal.returns
+returns c = cc

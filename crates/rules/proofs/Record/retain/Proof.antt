@@ -1,9 +1,0 @@
-use borrow.Author.Rules.{rules}
-use Rattle.rules.proofs.Record.retain.Statement.{statement}
-use Rattle.rules.proofs.Record.retain.Tie as tie
-
-returns : tie.Need-returns
-returns c = cc
-
-pub retain-spec : {M : Type 1} → statement M
-retain-spec = tie.close (tie.spec (λ c κs. search rules) returns)
