@@ -1,0 +1,9 @@
+use mathlib.Core.Path.{◌∙◌}
+use Rattle.rules.proofs.Units.{priced}
+use Rattle.book.proofs.Loaded.{before_at_lem}
+use Rattle.book.proofs.before.Goals as goal
+
+pub returns : goal.returns
+returns c =
+    priced c.of.ensures c.unit.ensures
+    (c.three.ensures ∙ before_at_lem _ _ c.requires.1)

@@ -1,0 +1,4 @@
+use Rattle.book.proofs.lot.Goals as goal
+
+pub returns : goal.returns
+returns c = cc

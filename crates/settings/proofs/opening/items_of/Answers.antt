@@ -1,0 +1,15 @@
+use Prim.Native.Nat.{◌-◌}
+use native.Mathlib.Omega.{arith}
+use borrow.Author.Rules.{rules}
+use Rattle.rules.specs.Settings.{item_of}
+use Rattle.rules.proofs.Fill.{none_filled, one_more, all_filled}
+use Rattle.settings.proofs.opening.items_of.Goals as goal
+
+pub loop-p-init : goal.loop-p-init
+loop-p-init c = none_filled _ (search rules)
+
+pub loop-p-preserved : goal.loop-p-preserved
+loop-p-preserved c = one_more _ c.loop-p.invariant (omega arith) c.item_of.ensures
+
+pub returns : goal.returns
+returns c = all_filled c.loop-p.invariant (omega arith)

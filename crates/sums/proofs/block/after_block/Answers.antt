@@ -1,0 +1,9 @@
+-- `after_block` meets its contract. Assumes nothing.
+use Rattle.sums.specs.Block.{after_block}
+use Rattle.sums.proofs.block.after_block.Goals as goal
+
+pub returns : goal.returns
+unfolding after_block
+returns c =
+    let v = c in
+    rw (c.added.ensures, c.rounds.ensures, v.work_of.ensures, v.schedule-w.ensures)
