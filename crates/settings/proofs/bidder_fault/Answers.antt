@@ -7,4 +7,4 @@ pub returns : goal.returns
 returns c =
     let l = c in
     let a = l.args in
-    rw l.eligibility_limits.ensures at c.of.ensures ∙ ap not (bidder_is a.t1 a.b)
+    rw l.eligibility_limits.ensures at c.of.ensures ∙ ap not (bidder_is a.t a.b)

@@ -8,7 +8,7 @@ returns-then-target c =
     let o = c in
     let l = o in
     let a = l.args in
-    found_here (target_fits a.t1 a.p) (cap_fits a.t1 a.p && start_fits a.t1 a.p) (rw l.target_limits.ensures at o.of-target.ensures) c.if-target.true ∙ ap not (item_is a.t1 a.p)
+    found_here (target_fits a.t a.p) (cap_fits a.t a.p && start_fits a.t a.p) (rw l.target_limits.ensures at o.of-target.ensures) c.if-target.true ∙ ap not (item_is a.t a.p)
 
 pub returns-then-cap : goal.returns-then-cap
 returns-then-cap c =
@@ -18,9 +18,9 @@ returns-then-cap c =
     let p = e in
     let k = p in
     let a = k.args in
-    found_later (target_fits a.t1 a.p) (cap_fits a.t1 a.p && start_fits a.t1 a.p) (rw k.target_limits.ensures at p.of-target.ensures) e.if-target.false
-    (found_here (cap_fits a.t1 a.p) (start_fits a.t1 a.p) (rw l.cap_limits.ensures at o.of-cap.ensures) c.if-cap.true)
-    ∙ ap not (item_is a.t1 a.p)
+    found_later (target_fits a.t a.p) (cap_fits a.t a.p && start_fits a.t a.p) (rw k.target_limits.ensures at p.of-target.ensures) e.if-target.false
+    (found_here (cap_fits a.t a.p) (start_fits a.t a.p) (rw l.cap_limits.ensures at o.of-cap.ensures) c.if-cap.true)
+    ∙ ap not (item_is a.t a.p)
 
 pub returns : goal.returns
 returns c =
@@ -32,6 +32,6 @@ returns c =
     let p = e in
     let k = p in
     let a = k.args in
-    found_later (target_fits a.t1 a.p) (cap_fits a.t1 a.p && start_fits a.t1 a.p) (rw k.target_limits.ensures at p.of-target.ensures) e.if-target.false
-    (found_later (cap_fits a.t1 a.p) (start_fits a.t1 a.p) (rw l.cap_limits.ensures at o.of-cap.ensures) d.if-cap.false (rw s.start_limits.ensures at c.of.ensures))
-    ∙ ap not (item_is a.t1 a.p)
+    found_later (target_fits a.t a.p) (cap_fits a.t a.p && start_fits a.t a.p) (rw k.target_limits.ensures at p.of-target.ensures) e.if-target.false
+    (found_later (cap_fits a.t a.p) (start_fits a.t a.p) (rw l.cap_limits.ensures at o.of-cap.ensures) d.if-cap.false (rw s.start_limits.ensures at c.of.ensures))
+    ∙ ap not (item_is a.t a.p)

@@ -13,16 +13,16 @@ products-few : (t : Terms) → counts_within t ≡ true → t.products ≤ 8
 products-few t e = search told
 
 pub returns-then-not-counts : goal.returns-then-not-counts
-returns-then-not-counts c = let e : counts_within c.args.t.terms ≡ false = not-true _ c.if-not-counts.true in rw e
+returns-then-not-counts c = let e : counts_within c.args.t.terms ≡ false = c.if-not-counts.true in rw e
 
 pub fault_of-fault-requires : goal.fault_of-fault-requires
-fault_of-fault-requires c = products-few c.args.t.terms (not-false _ c.if-not-counts.false)
+fault_of-fault-requires c = products-few c.args.t.terms c.if-not-counts.false
 
 pub returns : goal.returns
 returns c =
     let f = c in
     let d = f in
     let t = d.args.t in
-    let e : counts_within t.terms ≡ true = not-false _ d.if-not-counts.false in
+    let e : counts_within t.terms ≡ true = d.if-not-counts.false in
     rw (e, f.fault_of-fault.ensures)
     (rows_last (items t) (statewide_within t) (bidders t) (between 1 t.decrements.rows 8) (rows t))

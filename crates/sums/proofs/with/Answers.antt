@@ -11,7 +11,7 @@ loop-i-preserved c =
     let l = t.loop-i in (
       search rules,
       λ m h. step (sum_of l.words l.block l.count) m _ _ l.i _ (l.invariant.1 m h) t.loop-i-test.true
-          c.after_byte-next.ensures c.wrapping_add_u64-count.ensures,
+          c.after_byte-next.ensures c.wrapping_add_u64-count.ensures.value,
     )
 
 pub returns : goal.returns

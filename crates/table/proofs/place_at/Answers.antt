@@ -5,4 +5,4 @@ pub returns : goal.returns
 returns c =
     let d = c in
     let a = d.args in
-    rw (d.«record».ensures, d.lots-leaving.ensures, ← read_at a.ps.now a.k)
+    rw (d.record-holds.ensures, d.lots-leaving.ensures, ← read_at a.ps.now a.k)

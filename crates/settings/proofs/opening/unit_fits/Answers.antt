@@ -13,4 +13,4 @@ returns c =
     let d = c in
     let a = d.args in
     rw (lt-ltb _ _ d.if-p-s.false)
-    (is_eqb _ (unit_of (product_at a.t1 a.p).start) (unit_number a.t1.unit) (λ h. omega (arith, said)) (λ h e. omega (arith, said)))
+    (is_eqb _ (unit_of (product_at a.s a.p).start) (unit_number a.s.unit) (λ h. omega (arith, said)) (λ h e. omega (arith, said)))

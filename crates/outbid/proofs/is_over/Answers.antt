@@ -1,0 +1,10 @@
+use Prim.Native.Nat.{◌≤◌}
+use native.Mathlib.Omega.{arith}
+use Rattle.held.proofs.Signed.{less_back}
+use Rattle.outbid.proofs.is_over.Goals as goal
+
+pub returns : goal.returns
+returns c =
+    let s = c in
+    let k : s.args.target ≤ 20000000 = omega arith in
+    rw (c.is_above-above.ensures, c.standing_of.ensures, less_back _ _ s.requires k)

@@ -1,0 +1,14 @@
+use borrow.Author.Rules.{rules}
+use Prim.Native.Nat.{◌-◌}
+use native.Mathlib.Omega.{arith}
+use Rattle.rules.proofs.Fill.{none_filled, one_more, all_filled}
+use Rattle.reports.proofs.paid_prices.Goals as goal
+
+pub loop-p-init : goal.loop-p-init
+loop-p-init c = none_filled _ (search rules)
+
+pub loop-p-preserved : goal.loop-p-preserved
+loop-p-preserved c = one_more _ c.loop-p.invariant (omega arith) (λ i. record { price = c.paid_on-x.ensures i })
+
+pub returns : goal.returns
+returns c = all_filled c.loop-p.invariant (omega arith)
