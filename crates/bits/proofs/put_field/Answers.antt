@@ -22,33 +22,26 @@ put_part-requires-2 c = omega (arith, and_mask c.args.at 3)
 
 pub put_part-requires-then-left-le8 : goal.put_part-requires-then-left-le8
 put_part-requires-then-left-le8 c =
-    let first = c in
-    omega (arith, and_mask first.args.at 3, first.put_part-2.auto.0)
+    omega (arith, and_mask c.args.at 3, c.put_part-2.auto.room)
 
 pub returns-then-left-le8 : goal.returns-then-left-le8
 returns-then-left-le8 c =
-    let first = c in
-    let a = first.args in
+    let a = c.args in
     c.put_part-then-left-le8.ensures
-    ∙ rw first.put_part-2.ensures (put_rest a.room.now a.at (8 - bit_and a.at 7) a.width a.value (omega arith))
+    ∙ rw c.put_part-2.ensures (put_rest a.room.now a.at (8 - bit_and a.at 7) a.width a.value (omega arith))
 
 pub put_part-requires-3 : goal.put_part-requires-3
 put_part-requires-3 c =
-    let first = c in
-    omega (arith, and_mask first.args.at 3, first.put_part-2.auto.0)
+    omega (arith, and_mask c.args.at 3, c.put_part-2.auto.room)
 
 pub put_part-requires-4 : goal.put_part-requires-4
 put_part-requires-4 c =
-    let second = c in
-    let first = second in
-    omega (arith, and_mask first.args.at 3, first.put_part-2.auto.0, second.put_part-3.auto.0)
+    omega (arith, and_mask c.args.at 3, c.put_part-2.auto.room, c.put_part-3.auto.room)
 
 pub returns : goal.returns
 returns c =
-    let second = c in
-    let first = second in
-    let a = first.args in
+    let a = c.args in
     let free = 8 - bit_and a.at 7 in
     c.put_part-4.ensures
-    ∙ rw (second.put_part-3.ensures, put_rest first.put_part-2.new.0 (a.at + free) 8 (a.width - free) a.value (omega arith), first.put_part-2.ensures)
+    ∙ rw (c.put_part-3.ensures, put_rest c.put_part-2.new.room (a.at + free) 8 (a.width - free) a.value (omega arith), c.put_part-2.ensures)
     (put_rest a.room.now a.at free a.width a.value (omega arith))
