@@ -3,7 +3,7 @@ use mathlib.Core.Path.{◌≡◌, refl, sym, ◌∙◌}
 use mathlib.Core.Bool.{Bool, true, false, not}
 use Prim.Native.Nat.{ℕ, ◌≤◌, ◌<◌}
 use lib.Dec.{leb, eqb}
-use borrow.Author.Tests.{not-true, not-false, eqb-true, ltb-true, leb-true, eqb-false, ltb-false, leb-false, lt-ltb, le-leb, eq-eqb, lt-leb, ne_eqb}
+use borrow.Author.Tests.{eqb-true, ltb-true, leb-true, eqb-false, ltb-false, leb-false, lt-ltb, le-leb, eq-eqb, lt-leb, ne_eqb}
 use Rattle.rules.proofs.Sums.{and_left, and_right}
 use Rattle.rules.proofs.Lists.{both}
 
@@ -35,8 +35,8 @@ is_leb true a b h k = sym (le-leb a b (h refl))
 is_leb false a b h k = sym (lt-leb a b (k refl))
 
 -- what a call says of a test t, where the code goes on `!call`
-pub no : {r t : Bool} → r ≡ t → not r ≡ true → t ≡ false
-no {r} {t} e f = sym e ∙ not-true r f
+pub no : {r t : Bool} → r ≡ t → r ≡ false → t ≡ false
+no e f = sym e ∙ f
 
-pub yes : {r t : Bool} → r ≡ t → not r ≡ false → t ≡ true
-yes {r} {t} e f = sym e ∙ not-false r f
+pub yes : {r t : Bool} → r ≡ t → r ≡ true → t ≡ true
+yes e f = sym e ∙ f

@@ -34,7 +34,7 @@ returns-then-not-filed c =
     let f = t in
     let a = f.args in
     rw (sym f.has_filed-filed.ensures ∙ c.if-not-filed.true)
-    (rw (not-true f.has_filed-filed.result c.if-not-filed.true) at (all_passed t.loop-p.invariant.1 t.loop-p-test.false)
+    (rw c.if-not-filed.true at (all_passed t.loop-p.invariant.1 t.loop-p-test.false)
     ∙ unfiled_zero (loaded a.s.now) a.b)
 
 -- filed
@@ -50,7 +50,7 @@ returns c =
     rw (yes f.has_filed-filed.ensures left)
     (ap₂ ◌&&◌ (ap (ltb a.b) c.bidders.ensures.0)
     (ap₂ ◌&&◌ (ap (λ x. eqb x 0) (c.judge.ensures ∙ ap (judged s a.b) (all_filled v.0 t.loop-p-test.false)))
-    (rw (not-false f.has_filed-filed.result left) at (all_passed v.1 t.loop-p-test.false) ∙ filed_zero s a.b)))
+    (rw left at (all_passed v.1 t.loop-p-test.false) ∙ filed_zero s a.b)))
 
 pub loop-p-init : goal.loop-p-init
 loop-p-init c = (none_filled _ (search rules), none_passed)
