@@ -25,6 +25,15 @@ pub struct Seen {
     pub group: u32,
 }
 
+pub fn unseen() -> Seen {
+    Seen {
+        found: false,
+        mode: 0,
+        owner: 0,
+        group: 0,
+    }
+}
+
 pub fn seen_of(rt: &impl Files, path: &str) -> Seen {
     match fs::metadata(rt, path) {
         Ok(told) => Seen {
@@ -33,11 +42,6 @@ pub fn seen_of(rt: &impl Files, path: &str) -> Seen {
             owner: told.uid(),
             group: told.gid(),
         },
-        Err(_) => Seen {
-            found: false,
-            mode: 0,
-            owner: 0,
-            group: 0,
-        },
+        Err(_) => unseen(),
     }
 }
