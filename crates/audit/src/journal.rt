@@ -7,7 +7,8 @@ use crate::{FINE, NOT_OK, UNUSABLE};
 use calls::{Made, make};
 use check::same;
 use layout::STATE;
-use libc::{SEEK_CUR, SEEK_SET};
+use std::io::{ErrorKind, Read, Seek, SeekFrom};
+use std::rt::Files;
 use store::{Act, Kind, SUM};
 use text::{ANSWER, Cursor, put, put_named, read_again, send, word};
 
@@ -211,8 +212,8 @@ pub struct Turn {
     pub place: i64,
 }
 
-fn after_line(
-    fd: i32,
+fn after_line<F: Seek>(
+    file: &mut F,
     place: i64,
     line: &[u8],
     played: Played,
@@ -230,11 +231,11 @@ fn after_line(
         fitting = lines;
     }
     let next = store::sum_at(line, 0, line.len());
-    libc::lseek(fd, place, SEEK_SET);
-    let after = libc::lseek(fd, line.len() as i64, SEEK_CUR);
-    if after < 0 {
-        return faulty_at(played, Fault::Unread);
-    }
+    let _ = file.seek(SeekFrom::Start(place.cast_unsigned()));
+    let after = match file.seek(SeekFrom::Current(line.len() as i64)) {
+        Ok(at) => at.cast_signed(),
+        Err(_) => return faulty_at(played, Fault::Unread),
+    };
     let mut ended = true;
     if let Fault::None = fault {
         ended = false;
@@ -282,8 +283,8 @@ fn faulty_at(played: Played, fault: Fault) -> Turn {
 const LONGEST: usize = 4096;
 
 // The first line of what was read, where there is a whole one.
-fn play_first(
-    fd: i32,
+fn play_first<F: Seek>(
+    file: &mut F,
     place: i64,
     bytes: &[u8],
     played: Played,
@@ -301,7 +302,7 @@ fn play_first(
         return ended_at(played, bytes.len() != 0);
     }
     after_line(
-        fd,
+        file,
         place,
         &bytes[0..k],
         played,
@@ -313,8 +314,8 @@ fn play_first(
     )
 }
 
-pub fn play_next(
-    fd: i32,
+pub fn play_next<F: Read + Seek>(
+    file: &mut F,
     place: i64,
     played: Played,
     held: &[u8; STATE],
@@ -324,14 +325,13 @@ pub fn play_next(
     out: &mut [u8; ANSWER],
 ) -> Turn {
     let mut room = io::buffer();
-    libc::lseek(fd, place, SEEK_SET);
-    let got = read_again(fd, &mut room);
-    if got < 0 {
-        return faulty_at(played, Fault::Unread);
-    }
-    let n = io::count(got, &room);
+    let _ = file.seek(SeekFrom::Start(place.cast_unsigned()));
+    let n = match read_again(file, &mut room) {
+        Ok(n) => n,
+        Err(_) => return faulty_at(played, Fault::Unread),
+    };
     play_first(
-        fd,
+        file,
         place,
         &room[..n],
         played,
@@ -343,8 +343,8 @@ pub fn play_next(
     )
 }
 
-fn play_all(
-    fd: i32,
+fn play_all<F: Read + Seek>(
+    file: &mut F,
     held: &[u8; STATE],
     state: &mut [u8; STATE],
     prior: &mut [u8; STATE],
@@ -355,7 +355,7 @@ fn play_all(
     let mut played = begun();
     let mut turns = u64::MAX;
     while turns > 0 {
-        let turn = play_next(fd, place, played, held, state, prior, &mut before, out);
+        let turn = play_next(file, place, played, held, state, prior, &mut before, out);
         played = turn.played;
         if turn.ended {
             return played;
@@ -399,13 +399,13 @@ fn put_first(told: &mut [u8; ANSWER], at: usize, bytes: &[u8], n: usize) -> usiz
     at
 }
 
-fn say_fault(played: Played, out: &[u8; ANSWER]) -> u8 {
+fn say_fault(rt: &impl Print, played: Played, out: &[u8; ANSWER]) -> u8 {
     let mut told = io::large_buffer();
     let a = put_named(&mut told, 0, b"error line ", played.lines);
     let b = put(&mut told, a, b": ");
     let fault = played.fault;
     let n = put_fault(&mut told, b, fault, out);
-    send(&told, n);
+    send(rt, &told, n);
     NOT_OK
 }
 
@@ -429,16 +429,16 @@ fn put_lines(out: &mut [u8; ANSWER], played: Played) -> usize {
     d
 }
 
-fn say_end(out: &mut [u8; ANSWER], played: Played, what: &[u8]) -> u8 {
+fn say_end(rt: &impl Print, out: &mut [u8; ANSWER], played: Played, what: &[u8]) -> u8 {
     let a = put_lines(out, played);
     let n = put(out, a, what);
-    if send(out, n) {
+    if send(rt, out, n) {
         return FINE;
     }
     UNUSABLE
 }
 
-fn say_other(out: &mut [u8; ANSWER], played: Played) -> u8 {
+fn say_other(rt: &impl Print, out: &mut [u8; ANSWER], played: Played) -> u8 {
     let a = put_named(
         out,
         0,
@@ -451,7 +451,7 @@ fn say_other(out: &mut [u8; ANSWER], played: Played) -> u8 {
         let c = put_named(out, a, b"; it is what line ", played.fitting);
         put(out, c, b" leaves\n")
     };
-    send(out, b);
+    send(rt, out, b);
     NOT_OK
 }
 
@@ -462,6 +462,7 @@ pub fn is_issued(state: &[u8; STATE]) -> bool {
 
 // The states that the last line and the one before it leave, beside the box.
 fn compare(
+    rt: &impl Print,
     played: Played,
     closed: bool,
     held: &[u8; STATE],
@@ -473,80 +474,104 @@ fn compare(
     if let Fault::None = fault {
         if closed {
             if is_issued(state) {
-                return say_end(out, played, b"  closed by a return\n");
+                return say_end(rt, out, played, b"  closed by a return\n");
             }
         }
         if same(held, state) {
-            return say_end(out, played, b"  the box is what the last line leaves\n");
+            return say_end(
+                rt,
+                out,
+                played,
+                b"  the box is what the last line leaves\n",
+            );
         }
         if same(held, prior) {
             return say_end(
+                rt,
                 out,
                 played,
                 b"  the box is what the line before the last leaves: the last call was not finished\n",
             );
         }
-        return say_other(out, played);
+        return say_other(rt, out, played);
     }
-    say_fault(played, out)
+    say_fault(rt, played, out)
 }
 
-fn check_open(fd: i32, closed: bool, held: &[u8; STATE], out: &mut [u8; ANSWER]) -> u8 {
+fn check_open<R: Files + Print>(
+    rt: &R,
+    journal: R::File,
+    closed: bool,
+    held: &[u8; STATE],
+    out: &mut [u8; ANSWER],
+) -> u8 {
+    let mut file = journal;
     let mut state = [0u8; STATE];
     let mut prior = [0u8; STATE];
-    let played = play_all(fd, held, &mut state, &mut prior, out);
-    libc::close(fd);
-    compare(played, closed, held, &state, &prior, out)
+    let played = play_all(&mut file, held, &mut state, &mut prior, out);
+    drop(file);
+    compare(rt, played, closed, held, &state, &prior, out)
 }
 
 // Without a journal a box is as it was issued, or cannot be checked.
-fn check_without(held: &[u8; STATE], out: &mut [u8; ANSWER]) -> u8 {
+fn check_without(rt: &impl Print, held: &[u8; STATE], out: &mut [u8; ANSWER]) -> u8 {
     if is_issued(held) {
         say(
+            rt,
             out,
             b"ok 0 lines\n  there is no journal, and every byte of the box is zero\n",
         );
         return FINE;
     }
-    say(out, b"error the box has no journal\n");
+    say(rt, out, b"error the box has no journal\n");
     NOT_OK
 }
 
-fn check_state(path: &[u8], journal: &[u8], held: &[u8; STATE], out: &mut [u8; ANSWER]) -> u8 {
-    if journal.len() != 0 {
-        let named = os::open_read(journal);
-        if named < 0 {
-            say(out, b"error the journal cannot be read\n");
-            return UNUSABLE;
-        }
-        return check_open(named, true, held, out);
-    }
-    let fd = store::open_journal(path);
-    if fd < 0 {
-        if os::errno() == libc::ENOENT {
-            return check_without(held, out);
-        }
-        say(out, b"error the journal cannot be read\n");
-        return UNUSABLE;
-    }
-    check_open(fd, false, held, out)
+fn check_unread(rt: &impl Print, out: &mut [u8; ANSWER]) -> u8 {
+    say(rt, out, b"error the journal cannot be read\n");
+    UNUSABLE
 }
 
-pub fn check(path: &[u8], journal: &[u8]) -> u8 {
+fn check_state<R: Files + Print>(
+    rt: &R,
+    path: &[u8],
+    journal: &[u8],
+    held: &[u8; STATE],
+    out: &mut [u8; ANSWER],
+) -> u8 {
+    if journal.len() != 0 {
+        return match store::open_read(rt, journal) {
+            Ok(named) => check_open(rt, named, true, held, out),
+            Err(_) => check_unread(rt, out),
+        };
+    }
+    match store::open_journal(rt, path) {
+        Ok(own) => check_open(rt, own, false, held, out),
+        Err(e) => {
+            if e.kind() == ErrorKind::NotFound {
+                return check_without(rt, held, out);
+            }
+            check_unread(rt, out)
+        }
+    }
+}
+
+pub fn check<R: Files + Print>(rt: &R, path: &[u8], journal: &[u8]) -> u8 {
     let mut held = [0u8; STATE];
     let mut out = io::large_buffer();
-    match find(path, &mut held, &mut out) {
-        Found::State => check_state(path, journal, &held, &mut out),
+    match find(rt, path, &mut held, &mut out) {
+        Found::State => check_state(rt, path, journal, &held, &mut out),
         // a first opening that was cut off has left a journal, and no box yet
         Found::Missing => {
-            if (journal.len() != 0) | store::is_beside(path, b".journal") {
-                return check_state(path, journal, &held, &mut out);
+            if (journal.len() != 0) | store::is_beside(rt, path, b".journal") {
+                return check_state(rt, path, journal, &held, &mut out);
             }
-            say(&mut out, b"error there is no such box\n");
+            say(rt, &mut out, b"error there is no such box\n");
             UNUSABLE
         }
         Found::Wrong => {
             say(
+                rt,
                 &mut out,
                 b"error the file has another length than a box: it is none\n",
             );

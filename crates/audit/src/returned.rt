@@ -3,6 +3,7 @@ use crate::found::{Found, find, say};
 use crate::{FINE, NOT_OK, UNUSABLE};
 use layout::{BIDS, INITIAL, PERCENT, PHASE, RECORDS, STATE, TARGET};
 use rules::Phase;
+use std::rt::Files;
 use text::{ANSWER, put, put_named, send};
 
 // How many bytes from one place to another are not zero.
@@ -82,8 +83,15 @@ fn put_remains(out: &mut [u8; ANSWER], state: &[u8; STATE], all: u64) -> usize {
 }
 
 // A file that a desk keeps beside a box: said where it is there.
-fn put_beside(out: &mut [u8; ANSWER], at: usize, path: &[u8], ending: &[u8], what: &[u8]) -> usize {
-    if !store::is_beside(path, ending) {
+fn put_beside(
+    rt: &impl Files,
+    out: &mut [u8; ANSWER],
+    at: usize,
+    path: &[u8],
+    ending: &[u8],
+    what: &[u8],
+) -> usize {
+    if !store::is_beside(rt, path, ending) {
         return at;
     }
     let a = put(out, at, b"  beside it: ");
@@ -102,9 +110,15 @@ fn is_clean(state: &[u8; STATE]) -> bool {
     left_in(state, 0, STATE) == 0
 }
 
-fn tell(path: &[u8], state: &[u8; STATE], out: &mut [u8; ANSWER]) -> u8 {
+fn tell<R: Files + Print>(
+    rt: &R,
+    path: &[u8],
+    state: &[u8; STATE],
+    out: &mut [u8; ANSWER],
+) -> u8 {
     let a = put_found(out, state);
     let b = put_beside(
+        rt,
         out,
         a,
         path,
@@ -112,6 +126,7 @@ fn tell(path: &[u8], state: &[u8; STATE], out: &mut [u8; ANSWER]) -> u8 {
         b"its name with .before, the state before the last calculation or return\n",
     );
     let c = put_beside(
+        rt,
         out,
         b,
         path,
@@ -119,13 +134,14 @@ fn tell(path: &[u8], state: &[u8; STATE], out: &mut [u8; ANSWER]) -> u8 {
         b"its name with .names, the names of an auction's bidders and products\n",
     );
     let n = put_beside(
+        rt,
         out,
         c,
         path,
         b".journal",
         b"its name with .journal, the calls of an auction\n",
     );
-    if !send(out, n) {
+    if !send(rt, out, n) {
         return UNUSABLE;
     }
     if is_clean(state) {
@@ -134,17 +150,18 @@ fn tell(path: &[u8], state: &[u8; STATE], out: &mut [u8; ANSWER]) -> u8 {
     NOT_OK
 }
 
-pub fn inspect(path: &[u8]) -> u8 {
+pub fn inspect<R: Files + Print>(rt: &R, path: &[u8]) -> u8 {
     let mut state = [0u8; STATE];
     let mut out = io::large_buffer();
-    match find(path, &mut state, &mut out) {
-        Found::State => tell(path, &state, &mut out),
+    match find(rt, path, &mut state, &mut out) {
+        Found::State => tell(rt, path, &state, &mut out),
         Found::Missing => {
-            say(&mut out, b"error there is no such box\n");
+            say(rt, &mut out, b"error there is no such box\n");
             UNUSABLE
         }
         Found::Wrong => {
             say(
+                rt,
                 &mut out,
                 b"error the file has another length than a box: it is none\n",
             );

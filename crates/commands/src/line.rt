@@ -9,7 +9,11 @@ use layout::STATE;
 use looks::look;
 use names::{NAMES, Naming};
 use rules::{Count, Phase};
-use store::{Act, Kind, Undo, copy_before, keep, number_on, put_reason, save_names};
+use std::fs::File;
+use std::rt::Files;
+use store::{
+    Act, Kind, Numbered, Undo, copy_before, keep, number_on, put_reason, save_names,
+};
 use text::{ANSWER, Cursor, control_at, put, put_named, word, wrong_number};
 use view::put_form;
 
@@ -106,7 +110,8 @@ fn question(act: Act, out: &mut [u8; ANSWER], state: &[u8; STATE]) -> usize {
 // ---- A call kept
 
 // A call that is done on a copy is kept, or first asked about.
-fn settle(
+fn settle<R: Files<File = File> + Numbered>(
+    rt: &R,
     asks: bool,
     act: Act,
     n: usize,
@@ -128,7 +133,7 @@ fn settle(
             };
         }
     }
-    let done = keep(kind, path, act, given, n, state, work, out);
+    let done = keep(rt, kind, path, act, given, n, state, work, out);
     if done.ends {
         return Said {
             n: done.said,
@@ -151,7 +156,8 @@ fn undone(told: Said, out: &mut [u8; ANSWER], state: &[u8; STATE]) -> Said {
 }
 
 // `undo`: the state before the last calculation or return comes back.
-fn undo(
+fn undo<R: Files<File = File> + Numbered>(
+    rt: &R,
     line: &[u8],
     c: Cursor,
     kind: Kind,
@@ -175,7 +181,7 @@ fn undo(
         Kind::Wrong => return told(calls::other_length(kind, state, out)),
     }
     let mut copy = [0u8; STATE];
-    match copy_before(path, state, &mut copy) {
+    match copy_before(rt, path, state, &mut copy) {
         Undo::Copy => {}
         Undo::Nothing => {
             return told(put(
@@ -193,7 +199,18 @@ fn undo(
         }
     }
     let n = put(out, 0, b"ok\n");
-    let told = settle(false, Act::Undo, n, kind, path, b"undo", state, copy, out);
+    let told = settle(
+        rt,
+        false,
+        Act::Undo,
+        n,
+        kind,
+        path,
+        b"undo",
+        state,
+        copy,
+        out,
+    );
     undone(told, out, state)
 }
 
@@ -219,21 +236,27 @@ fn unnamed(kind: Kind, state: &[u8; STATE], out: &mut [u8; ANSWER]) -> usize {
     }
 }
 
-fn save_part(path: &[u8], bytes: &[u8], n: usize) -> i32 {
+fn save_part<R: Files<File = File> + Numbered>(rt: &R, path: &[u8], bytes: &[u8], n: usize) -> i32 {
     if n <= bytes.len() {
-        return save_names(path, &bytes[0..n]);
+        return save_names(rt, path, &bytes[0..n]);
     }
-    save_names(path, bytes)
+    save_names(rt, path, bytes)
 }
 
 // Beside a box file the names are kept: 0, or the system's number for what failed.
-fn keep_names(kind: Kind, path: &[u8], names: &[u8; NAMES], out: &mut [u8; ANSWER]) -> i32 {
+fn keep_names<R: Files<File = File> + Numbered>(
+    rt: &R,
+    kind: Kind,
+    path: &[u8],
+    names: &[u8; NAMES],
+    out: &mut [u8; ANSWER],
+) -> i32 {
     match kind {
         Kind::Loose => 0,
         Kind::Wrong => 0,
         Kind::Filed => {
             let n = names::put_file(out, names);
-            save_part(path, out, n)
+            save_part(rt, path, out, n)
         }
     }
 }
@@ -258,7 +281,8 @@ fn copy_names(names: &[u8; NAMES]) -> [u8; NAMES] {
 }
 
 // `name bidder B NAME`, `name product P NAME`: a name that cannot be kept is not given.
-fn name(
+fn name<R: Files<File = File> + Numbered>(
+    rt: &R,
     line: &[u8],
     c: Cursor,
     kind: Kind,
@@ -287,7 +311,7 @@ fn name(
     if wrong != 0 {
         return wrong;
     }
-    let why = keep_names(kind, path, &with, out);
+    let why = keep_names(rt, kind, path, &with, out);
     if why != 0 {
         return not_kept(why, out);
     }
@@ -356,7 +380,8 @@ fn bail(line: &[u8], c: Cursor, out: &mut [u8; ANSWER]) -> Said {
 }
 
 // A command that makes no call, by its word.
-fn without_call(
+fn without_call<R: Files<File = File> + Numbered>(
+    rt: &R,
     w: &[u8],
     at: usize,
     line: &[u8],
@@ -370,10 +395,10 @@ fn without_call(
     ensures { Left w.now state.old state.new }
 {
     if same(w, b"undo") {
-        return undo(line, c, kind, path, state, out);
+        return undo(rt, line, c, kind, path, state, out);
     }
     if same(w, b"name") {
-        return told(name(line, c, kind, path, names, state, out));
+        return told(name(rt, line, c, kind, path, names, state, out));
     }
     if same(w, b"names") {
         return told(show_names(line, c, kind, names, state, out));
@@ -391,7 +416,8 @@ fn without_call(
 }
 
 // A command: its word, the place of that, and what was given from the word on.
-fn command(
+fn command<R: Files<File = File> + Numbered>(
+    rt: &R,
     w: &[u8],
     at: usize,
     given: &[u8],
@@ -409,12 +435,12 @@ fn command(
     let mut work = copy_of(state);
     match make(w, line, c, kind, &mut work, out) {
         Made::Done(act, n) => {
-            let told = settle(asks, act, n, kind, path, given, state, work, out);
+            let told = settle(rt, asks, act, n, kind, path, given, state, work, out);
             forget(names, state);
             told
         }
         Made::Said(n) => told(n),
-        Made::Other => without_call(w, at, line, c, kind, path, names, state, out),
+        Made::Other => without_call(rt, w, at, line, c, kind, path, names, state, out),
     }
 }
 
@@ -426,7 +452,8 @@ fn byte_at(line: &[u8], i: usize) -> u8 {
 }
 
 // Answers a line. Nothing is said to an empty one, or to one that begins with #.
-pub fn answer(
+pub fn answer<R: Files<File = File> + Numbered>(
+    rt: &R,
     line: &[u8],
     asks: bool,
     kind: Kind,
@@ -457,6 +484,7 @@ pub fn answer(
         ));
     }
     command(
+        rt,
         &line[a..e],
         a,
         &line[a..],

@@ -2,16 +2,17 @@
 ghost use Rattle.std.specs.Prelude.{◌≤◌, ◌<◌, length, ◌≡◌};
 ghost use Rattle.calls.specs.Lines.{Served};
 
+use crate::host::Host;
 use crate::line::{Next, Said, answer};
 use audit::{FINE, NOT_OK, UNUSABLE};
 use check::same;
 use layout::STATE;
-use libc::STDIN_FILENO;
 use names::{NAMES, put_names};
 use rules::Phase;
+use std::io::Read;
 use store::{Kind, number_on};
 use text::{
-    ANSWER, Cursor, Input, join_lines, keep_rest, next_end, put, put_named, read_again, send,
+    ANSWER, Aside, Cursor, Input, join_lines, keep_rest, next_end, put, put_named, read_again, send,
     skip_on, word,
 };
 
@@ -146,7 +147,7 @@ fn part_end(out: &[u8; ANSWER], from: usize, n: usize) -> usize
 }
 
 // Writes the answer with the names beside its numbers, part by part: whether all was taken.
-fn send_named(out: &[u8; ANSWER], n: usize, names: &[u8; NAMES]) -> bool {
+fn send_named(rt: &impl Print, out: &[u8; ANSWER], n: usize, names: &[u8; NAMES]) -> bool {
     if ANSWER < n {
         return false;
     }
@@ -155,7 +156,7 @@ fn send_named(out: &[u8; ANSWER], n: usize, names: &[u8; NAMES]) -> bool {
     while from < n {
         let to = part_end(out, from, n);
         let k = put_names(&mut shown, out, from, to, names);
-        if !send(&shown, k) {
+        if !send(rt, &shown, k) {
             return false;
         }
         from = to;
@@ -165,13 +166,14 @@ fn send_named(out: &[u8; ANSWER], n: usize, names: &[u8; NAMES]) -> bool {
 
 // Writes the answer, and takes in what it was. `length` is that of the line.
 fn take_in(
+    rt: &impl Print,
     course: Course,
     told: Said,
     length: usize,
     names: &[u8; NAMES],
     out: &[u8; ANSWER],
 ) -> Course {
-    if !send_named(out, told.n, names) {
+    if !send_named(rt, out, told.n, names) {
         return course.broken();
     }
     let next = told.next;
@@ -231,14 +233,14 @@ fn put_shown(out: &mut [u8; ANSWER], at: usize, line: &[u8]) -> usize {
 }
 
 // A command stands after `> `, a remark or an empty line as it is.
-fn echo(line: &[u8], out: &mut [u8; ANSWER]) -> bool {
+fn echo(rt: &impl Print, line: &[u8], out: &mut [u8; ANSWER]) -> bool {
     if is_remark(line) | is_empty(line) {
         let n = put_shown(out, 0, line);
-        return send(out, n);
+        return send(rt, out, n);
     }
     let a = put(out, 0, b"> ");
     let n = put_shown(out, a, line);
-    send(out, n)
+    send(rt, out, n)
 }
 
 // ---- A line answered
@@ -256,6 +258,7 @@ fn hold(line: &[u8], held: &mut [u8; LINE]) {
 }
 
 fn respond_to(
+    rt: &impl Host,
     line: &[u8],
     asks: bool,
     course: Course,
@@ -267,12 +270,13 @@ fn respond_to(
 ) -> Course
     ensures { Served state.old state.new }
 {
-    let told = answer(line, asks, kind, path, names, state, out);
-    take_in(course, told, line.len(), names, out)
+    let told = answer(rt, line, asks, kind, path, names, state, out);
+    take_in(rt, course, told, line.len(), names, out)
 }
 
 // The line that was asked about is done without asking again.
 fn respond_held(
+    rt: &impl Host,
     held: &[u8],
     n: usize,
     course: Course,
@@ -286,6 +290,7 @@ fn respond_held(
 {
     if n <= held.len() {
         return respond_to(
+            rt,
             &held[0..n],
             false,
             course.goes(),
@@ -300,6 +305,7 @@ fn respond_held(
 }
 
 fn respond_yes(
+    rt: &impl Host,
     held: &[u8; LINE],
     course: Course,
     kind: Kind,
@@ -310,12 +316,22 @@ fn respond_yes(
 ) -> Course
     ensures { Served state.old state.new }
 {
-    respond_held(held, course.asked, course, kind, path, names, state, out)
+    respond_held(
+        rt,
+        held,
+        course.asked,
+        course,
+        kind,
+        path,
+        names,
+        state,
+        out,
+    )
 }
 
-fn respond_no(course: Course, out: &mut [u8; ANSWER]) -> Course {
+fn respond_no(rt: &impl Print, course: Course, out: &mut [u8; ANSWER]) -> Course {
     let n = put(out, 0, b"not done\n");
-    if send(out, n) {
+    if send(rt, out, n) {
         return course.goes();
     }
     course.broken()
@@ -355,6 +371,7 @@ fn reply_of(line: &[u8], asked: usize) -> Reply {
 }
 
 fn respond(
+    rt: &impl Host,
     line: &[u8],
     held: &mut [u8; LINE],
     manner: Manner,
@@ -368,17 +385,27 @@ fn respond(
     ensures { Served state.old state.new }
 {
     if manner.echoes {
-        if !echo(line, out) {
+        if !echo(rt, line, out) {
             return course.broken();
         }
     }
     match reply_of(line, course.asked) {
-        Reply::Yes => return respond_yes(held, course, kind, path, names, state, out),
-        Reply::No => return respond_no(course, out),
+        Reply::Yes => return respond_yes(rt, held, course, kind, path, names, state, out),
+        Reply::No => return respond_no(rt, course, out),
         Reply::Other => {}
     }
     hold(line, held);
-    respond_to(line, manner.asks, course, kind, path, names, state, out)
+    respond_to(
+        rt,
+        line,
+        manner.asks,
+        course,
+        kind,
+        path,
+        names,
+        state,
+        out,
+    )
 }
 
 // ---- The lines of the input
@@ -402,6 +429,7 @@ fn unmark(buf: &mut [u8], begun: bool)
 
 // The line from one place to another, made one where it goes over several. The rest of one that was too long is not answered again.
 fn one_line(
+    rt: &impl Host,
     buf: &mut [u8],
     skip: bool,
     from: usize,
@@ -423,6 +451,7 @@ fn one_line(
     }
     join_lines(buf, from, to);
     respond(
+        rt,
         &buf[from..to],
         held,
         manner,
@@ -457,6 +486,7 @@ struct Lines {
 
 // Answers each whole line of the first `full` bytes.
 fn answer_lines(
+    rt: &impl Host,
     buf: &mut [u8],
     full: usize,
     skipping: bool,
@@ -484,7 +514,7 @@ fn answer_lines(
             };
         }
         gone = one_line(
-            buf, skip, start, e, held, manner, gone, kind, path, names, state, out,
+            rt, buf, skip, start, e, held, manner, gone, kind, path, names, state, out,
         );
         skip = false;
         start = next_start(buf, e, full);
@@ -503,6 +533,7 @@ fn answer_lines(
 
 // What a line that is too long is answered; of a remark nothing is said.
 fn too_long(
+    rt: &impl Print,
     buf: &[u8],
     manner: Manner,
     course: Course,
@@ -510,7 +541,7 @@ fn too_long(
     out: &mut [u8; ANSWER],
 ) -> Course {
     if manner.echoes {
-        if !echo(buf, out) {
+        if !echo(rt, buf, out) {
             return course.broken();
         }
     }
@@ -522,7 +553,7 @@ fn too_long(
         n,
         next: Next::Goes,
     };
-    take_in(course, told, 0, names, out)
+    take_in(rt, course, told, 0, names, out)
 }
 
 // What is left in a full buffer without a line end: of a remark its mark, so that its rest is a remark too; of any other line what tells
@@ -554,6 +585,7 @@ struct Turn {
 
 // The end of the input: its last line may have no line end.
 fn at_end(
+    rt: &impl Host,
     buf: &mut [u8],
     end: usize,
     skipping: bool,
@@ -571,7 +603,7 @@ fn at_end(
     ensures { Served state.old state.new }
 {
     if failed {
-        text::warn(b"desk: the input cannot be read\n");
+        text::warn(rt, b"desk: the input cannot be read\n");
         return Turn {
             input: Input::ended(),
             course: course.broken(),
@@ -584,7 +616,7 @@ fn at_end(
         };
     }
     let gone = one_line(
-        buf, skipping, 0, end, held, manner, course, kind, path, names, state, out,
+        rt, buf, skipping, 0, end, held, manner, course, kind, path, names, state, out,
     );
     Turn {
         input: Input::ended(),
@@ -594,6 +626,7 @@ fn at_end(
 
 // Answers the whole lines of the first `full` bytes, and keeps the rest.
 fn answer_read(
+    rt: &impl Host,
     buf: &mut [u8],
     full: usize,
     skipping: bool,
@@ -611,7 +644,7 @@ fn answer_read(
 {
     unmark(buf, course.begun);
     let lines = answer_lines(
-        buf, full, skipping, held, manner, course, kind, path, names, state, out,
+        rt, buf, full, skipping, held, manner, course, kind, path, names, state, out,
     );
     let gone = lines.course;
     if gone.ended {
@@ -645,28 +678,36 @@ fn put_prompt(out: &mut [u8; ANSWER], kind: Kind, state: &[u8; STATE]) -> usize 
 }
 
 // To standard error, so that the answers alone are on standard output.
-fn prompt(asked: usize, kind: Kind, state: &[u8; STATE], out: &mut [u8; ANSWER]) {
+fn prompt(
+    rt: &impl Aside,
+    asked: usize,
+    kind: Kind,
+    state: &[u8; STATE],
+    out: &mut [u8; ANSWER],
+) {
     let n = if asked == 0 {
         put_prompt(out, kind, state)
     } else {
         put(out, 0, b"yes or no> ")
     };
-    tell(out, n);
+    tell(rt, out, n);
 }
 
-fn warn_first(out: &[u8], n: usize) {
+fn warn_first(rt: &impl Aside, out: &[u8], n: usize) {
     if n <= out.len() {
-        text::warn(&out[0..n]);
+        text::warn(rt, &out[0..n]);
     }
 }
 
 // The first n bytes that were gathered, to the person at the desk.
-pub fn tell(out: &[u8; ANSWER], n: usize) {
-    warn_first(out, n);
+pub fn tell(rt: &impl Aside, out: &[u8; ANSWER], n: usize) {
+    warn_first(rt, out, n);
 }
 
 // Reads once, and answers each line that is then whole.
-fn turned(
+fn turned<R: Host, I: Read>(
+    rt: &R,
+    input: &mut I,
     buf: &mut [u8],
     from: Input,
     held: &mut [u8; LINE],
@@ -683,23 +724,25 @@ fn turned(
     let end = from.end;
     let skipping = from.skipping;
     if buf.len() <= end {
-        let gone = too_long(buf, manner, course, names, out);
+        let gone = too_long(rt, buf, manner, course, names, out);
         return Turn {
             input: after_full(buf, gone.ended),
             course: gone,
         };
     }
     if manner.asks & (end == 0) {
-        prompt(course.asked, kind, state, out);
+        prompt(rt, course.asked, kind, state, out);
     }
-    let got = read_again(STDIN_FILENO, &mut buf[end..]);
-    let n = io::count(got, &buf[end..]);
+    let got = read_again(input, &mut buf[end..]);
+    let failed = got.is_err();
+    let n = got.unwrap_or(0);
     if n == 0 {
         return at_end(
+            rt,
             buf,
             end,
             skipping,
-            got < 0,
+            failed,
             held,
             manner,
             course,
@@ -711,6 +754,7 @@ fn turned(
         );
     }
     answer_read(
+        rt,
         buf,
         end + n,
         skipping,
@@ -738,6 +782,7 @@ fn status_of(manner: Manner, course: Course) -> u8 {
 // Serves the lines of standard input: the status. A proved loop has to end, and nothing says that an input does: so it counts its turns
 // down, from a number that no run uses up.
 pub fn serve(
+    rt: &impl Host,
     manner: Manner,
     kind: Kind,
     path: &[u8],
@@ -746,6 +791,7 @@ pub fn serve(
 ) -> u8
     ensures { Served state.old state.new }
 {
+    let mut input = rt.reader();
     let mut out = io::large_buffer();
     let mut names = given;
     let mut held = [0u8; LINE];
@@ -755,7 +801,8 @@ pub fn serve(
     let mut turns = u64::MAX;
     while turns > 0 {
         let done = turned(
-            &mut buf, at, &mut held, manner, gone, kind, path, &mut names, state, &mut out,
+            rt, &mut input, &mut buf, at, &mut held, manner, gone, kind, path, &mut names, state,
+            &mut out,
         );
         at = done.input;
         gone = done.course;

@@ -1,13 +1,17 @@
 // The whole program: its options, the box that it names, and what is done with it.
+ghost use Rattle.std.specs.Prelude.{◌≤◌, length};
+
+use crate::host::Host;
 use crate::shell::{Manner, serve, tell};
 use audit::{Found, UNUSABLE, check, find, inspect, say, say_unread};
 use check::same;
 use layout::STATE;
-use libc::STDIN_FILENO;
 use names::{NAMES, put_names};
 use rules::Phase;
-use store::{Filled, Kind, drop_names, load_names, number_on};
-use text::{ANSWER, put, put_named};
+use std::env::FillError;
+use std::rt::{Env, Files};
+use store::{EINVAL, ENAMETOOLONG, Filled, Kind, drop_names, load_names, number_on};
+use text::{ANSWER, Aside, put, put_named, put_status};
 
 // ---- The box that is found
 
@@ -48,6 +52,7 @@ fn put_auction(out: &mut [u8; ANSWER], at: usize, state: &[u8; STATE]) -> usize 
 
 // `desk: BOX: `, and what it is, to the person at the desk.
 fn tell_box(
+    rt: &impl Aside,
     path: &[u8],
     is_new: bool,
     kind: Kind,
@@ -66,7 +71,7 @@ fn tell_box(
     let n = put(out, d, b"\n");
     let mut shown = io::large_buffer();
     let k = put_names(&mut shown, out, 0, n, names);
-    tell(&shown, k);
+    tell(rt, &shown, k);
 }
 
 fn take_first(
@@ -100,18 +105,23 @@ fn take_part(
 }
 
 // The names that are kept beside a box whose auction stands. Of any other box, such as one whose return was cut off, they go.
-fn names_beside(path: &[u8], state: &[u8; STATE], out: &mut [u8; ANSWER]) -> [u8; NAMES] {
+fn names_beside<R: Files + Aside>(
+    rt: &R,
+    path: &[u8],
+    state: &[u8; STATE],
+    out: &mut [u8; ANSWER],
+) -> [u8; NAMES] {
     let mut names = names::none();
     if number_on(Kind::Filed, state) != 0 {
         if number_on(Kind::Filed, state) == 3 {
-            drop_names(path);
+            drop_names(rt, path);
         }
         return names;
     }
     let mut room = io::large_buffer();
-    match load_names(path, &mut room) {
-        Filled::Failed => {
-            text::warn(b"desk: the names beside the box cannot be read\n");
+    match load_names(rt, path, &mut room) {
+        Filled::Failed(_) => {
+            text::warn(rt, b"desk: the names beside the box cannot be read\n");
             names
         }
         Filled::Bytes(n) => {
@@ -119,7 +129,7 @@ fn names_beside(path: &[u8], state: &[u8; STATE], out: &mut [u8; ANSWER]) -> [u8
             if line != 0 {
                 let a = put_named(out, 0, b"desk: the names beside the box: line ", line);
                 let b = put(out, a, b" gives none and is passed over\n");
-                tell(out, b);
+                tell(rt, out, b);
             }
             names
         }
@@ -127,24 +137,24 @@ fn names_beside(path: &[u8], state: &[u8; STATE], out: &mut [u8; ANSWER]) -> [u8
 }
 
 // A box that is not there is issued. One of another length is served too, so that each call answers its refusal.
-fn serve_box(manner: Manner, path: &[u8]) -> u8 {
+fn serve_box(rt: &impl Host, manner: Manner, path: &[u8]) -> u8 {
     let mut state = [0u8; STATE];
     let mut out = io::large_buffer();
-    match find(path, &mut state, &mut out) {
+    match find(rt, path, &mut state, &mut out) {
         Found::State => {
-            let names = names_beside(path, &state, &mut out);
-            tell_box(path, false, Kind::Filed, &names, &state, &mut out);
-            serve(manner, Kind::Filed, path, names, &mut state)
+            let names = names_beside(rt, path, &state, &mut out);
+            tell_box(rt, path, false, Kind::Filed, &names, &state, &mut out);
+            serve(rt, manner, Kind::Filed, path, names, &mut state)
         }
         Found::Missing => {
-            let names = names_beside(path, &state, &mut out);
-            tell_box(path, true, Kind::Filed, &names, &state, &mut out);
-            serve(manner, Kind::Filed, path, names, &mut state)
+            let names = names_beside(rt, path, &state, &mut out);
+            tell_box(rt, path, true, Kind::Filed, &names, &state, &mut out);
+            serve(rt, manner, Kind::Filed, path, names, &mut state)
         }
         Found::Wrong => {
             let names = names::none();
-            tell_box(path, false, Kind::Wrong, &names, &state, &mut out);
-            serve(manner, Kind::Wrong, path, names, &mut state)
+            tell_box(rt, path, false, Kind::Wrong, &names, &state, &mut out);
+            serve(rt, manner, Kind::Wrong, path, names, &mut state)
         }
         Found::Said => UNUSABLE,
     }
@@ -220,15 +230,16 @@ fn with_argument(o: Options, i: usize, argument: &[u8]) -> Options {
     with
 }
 
-fn options_given() -> Options {
+fn options_given(rt: &impl Env) -> Options {
     let mut o = nothing_asked();
     let mut i = 1;
     while i < 10 {
-        if os::arg_count() <= i {
-            return o;
-        }
         let mut room = io::buffer();
-        let n = os::arg(i, &mut room);
+        let n = match rt.arg(i, &mut room) {
+            Ok(n) => n,
+            Err(FillError::TooLong) => 0,
+            Err(FillError::NotPresent) => return o,
+        };
         o = with_argument(o, i, &room[..n]);
         i += 1;
     }
@@ -238,88 +249,94 @@ fn options_given() -> Options {
 
 // ---- The program
 
-// Whether a person is at the desk.
-fn is_typed() -> bool {
-    libc::isatty(STDIN_FILENO) == 1
+// An argument at the start of the room: its length, or 0 where it is longer than the room.
+fn argument(rt: &impl Env, i: usize, room: &mut [u8]) -> usize
+    ensures { result ≤ length room.new }
+{
+    match rt.arg(i, room) {
+        Ok(n) => n,
+        Err(_) => 0,
+    }
 }
 
-fn serve_named(o: Options) -> u8 {
+fn serve_named(rt: &impl Host, o: Options) -> u8 {
     let manner = Manner {
         echoes: o.echoes,
         bails: o.bails,
-        asks: is_typed(),
+        asks: rt.is_typed(),
     };
     let mut out = io::large_buffer();
     if o.journal != 0 {
-        say(&mut out, b"error one box at most can be named\n");
+        say(rt, &mut out, b"error one box at most can be named\n");
         return UNUSABLE;
     }
     if o.boxed == 0 {
         if manner.asks {
-            text::warn(b"desk: no box file: what is done here ends with this desk\n");
+            text::warn(
+                rt,
+                b"desk: no box file: what is done here ends with this desk\n",
+            );
         }
         let mut state = [0u8; STATE];
-        return serve(manner, Kind::Loose, b"", names::none(), &mut state);
+        return serve(rt, manner, Kind::Loose, b"", names::none(), &mut state);
     }
     let mut path = io::buffer();
-    let n = os::arg(o.boxed, &mut path);
-    let why = os::errno();
-    if why != 0 {
-        return say_unread(&mut out, why);
-    }
+    let n = match rt.arg(o.boxed, &mut path) {
+        Ok(n) => n,
+        Err(FillError::TooLong) => return say_unread(rt, &mut out, ENAMETOOLONG),
+        Err(FillError::NotPresent) => return say_unread(rt, &mut out, EINVAL),
+    };
     if n == 0 {
-        say(&mut out, b"error the name of the box is empty\n");
+        say(rt, &mut out, b"error the name of the box is empty\n");
         return UNUSABLE;
     }
-    serve_box(manner, &path[..n])
+    serve_box(rt, manner, &path[..n])
 }
 
-fn check_named(o: Options) -> u8 {
+fn check_named(rt: &impl Host, o: Options) -> u8 {
     let mut path = io::buffer();
-    let n = os::arg(o.boxed, &mut path);
+    let n = argument(rt, o.boxed, &mut path);
     let mut journal = io::buffer();
     if o.journal == 0 {
-        return check(&path[..n], b"");
+        return check(rt, &path[..n], b"");
     }
-    let j = os::arg(o.journal, &mut journal);
-    check(&path[..n], &journal[..j])
+    let j = argument(rt, o.journal, &mut journal);
+    check(rt, &path[..n], &journal[..j])
 }
 
-fn inspect_named(o: Options) -> u8 {
+fn inspect_named(rt: &impl Host, o: Options) -> u8 {
     let mut path = io::buffer();
-    let n = os::arg(o.boxed, &mut path);
-    inspect(&path[..n])
+    let n = argument(rt, o.boxed, &mut path);
+    inspect(rt, &path[..n])
 }
 
-fn done(o: Options) -> u8 {
+fn done(rt: &impl Host, o: Options) -> u8 {
     let mut out = io::large_buffer();
     if o.wrong {
         say(
+            rt,
             &mut out,
             b"error no such option, or too many names; ./desk --help says what there is\n",
         );
         return UNUSABLE;
     }
     if o.task == SERVE {
-        return serve_named(o);
+        return serve_named(rt, o);
     }
     if o.boxed == 0 {
-        say(&mut out, b"error which box? its name is missing\n");
+        say(rt, &mut out, b"error which box? its name is missing\n");
         return UNUSABLE;
     }
     if o.task == CHECK {
-        return check_named(o);
+        return check_named(rt, o);
     }
-    inspect_named(o)
+    inspect_named(rt, o)
 }
 
-// The status goes to descriptor 3 where the launcher asks for it: a program ends with 0.
-const STATUS: i32 = 3;
-
-pub fn run() {
-    let o = options_given();
-    let status = done(o);
+pub fn run(rt: &impl Host) {
+    let o = options_given(rt);
+    let status = done(rt, o);
     if o.tells {
-        io::print_decimal(STATUS, status as u64);
+        put_status(rt, status);
     }
 }

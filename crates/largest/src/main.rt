@@ -10,11 +10,13 @@
 ghost use Rattle.std.specs.Prelude.{◌≡◌, length};
 
 use layout::{FREE, PHASE, ROUND, SEAT, STATE};
-use libc::{STDIN_FILENO, STDOUT_FILENO};
 use rules::{
     BasisPoints, Calculation, Card, Chosen, Count, KwhPrice, Line, Lot, Lots, Override, Price,
     Product, Row, Settings, Tranches, Unit,
 };
+use std::env::FillError;
+use std::io::Read;
+use std::rt::Env;
 
 // 8 products of 200 tranches, 32 bidders who may bid `each` tranches.
 fn settings(each: u16) -> Settings {
@@ -204,25 +206,30 @@ fn all_at_once(state: &mut [u8]) {
     file_all(state, 3, [line(7, 0); 8]);
 }
 
-fn say(words: &[u8], n: u32) {
-    io::write_all(STDOUT_FILENO, words);
-    io::print_decimal(STDOUT_FILENO, n as u64);
+// What cannot be written nobody is left to tell.
+fn write(rt: &impl Print, bytes: &[u8]) {
+    let _ = rt.write_all(bytes);
 }
 
-fn told(answer: Calculation) {
+fn say(rt: &impl Print, words: &[u8], n: u32) {
+    write(rt, words);
+    let _ = rt.print(n);
+}
+
+fn told(rt: &impl Print, answer: Calculation) {
     match answer {
         Calculation::Done { kept, outbid } => {
-            say(b"kept ", kept);
-            say(b", outbid ", outbid);
+            say(rt, b"kept ", kept);
+            say(rt, b", outbid ", outbid);
         }
-        Calculation::Refused(n) => say(b"refused ", n as u32),
+        Calculation::Refused(n) => say(rt, b"refused ", n as u32),
     }
-    io::write_all(STDOUT_FILENO, b"\n");
+    write(rt, b"\n");
 }
 
-fn calculated(start: [u8; STATE]) {
+fn calculated(rt: &impl Print, start: [u8; STATE]) {
     let mut state = start;
-    told(console::calculate(&mut state, &draw(), no_overrides()));
+    told(rt, console::calculate(&mut state, &draw(), no_overrides()));
 }
 
 // The last in rank goes first.
@@ -230,34 +237,34 @@ fn backwards() -> [u8; 8] {
     [7, 6, 5, 4, 3, 2, 1, 0]
 }
 
-fn calculated_backwards(start: [u8; STATE]) {
+fn calculated_backwards(rt: &impl Print, start: [u8; STATE]) {
     let mut state = start;
-    told(console::calculate_plain(&mut state, &draw(), no_overrides(), &backwards()));
+    told(rt, console::calculate_plain(&mut state, &draw(), no_overrides(), &backwards()));
 }
 
-fn counted(state: [u8; STATE]) {
+fn counted(rt: &impl Print, state: [u8; STATE]) {
     let answer = console::count(&state);
     match answer {
-        Count::ToFile(n) => say(b"still to file ", n),
-        Count::Refused(n) => say(b"refused ", n as u32),
+        Count::ToFile(n) => say(rt, b"still to file ", n),
+        Count::Refused(n) => say(rt, b"refused ", n as u32),
     }
-    io::write_all(STDOUT_FILENO, b"\n");
+    write(rt, b"\n");
 }
 
-fn written(state: [u8; STATE]) {
-    io::write_all(STDOUT_FILENO, &state);
+fn written(rt: &impl Print, state: [u8; STATE]) {
+    write(rt, &state);
 }
 
-fn written_after(start: [u8; STATE]) {
+fn written_after(rt: &impl Print, start: [u8; STATE]) {
     let mut state = start;
     console::calculate(&mut state, &draw(), no_overrides());
-    io::write_all(STDOUT_FILENO, &state);
+    write(rt, &state);
 }
 
-fn written_after_backwards(start: [u8; STATE]) {
+fn written_after_backwards(rt: &impl Print, start: [u8; STATE]) {
     let mut state = start;
     console::calculate_plain(&mut state, &draw(), no_overrides(), &backwards());
-    io::write_all(STDOUT_FILENO, &state);
+    write(rt, &state);
 }
 
 // The largest card, with every bit of its fields set: 905 bits, and 7 that fill the last byte.
@@ -267,27 +274,27 @@ fn largest_card() -> [u8; 114] {
     card
 }
 
-fn read_card() {
+fn read_card(rt: &impl Print) {
     let read = console::read(&largest_card(), 8);
     let card = read.card;
     match card {
         Card::Bid { bidder, round } => {
-            say(b"bidder ", bidder as u32);
-            say(b", round ", round as u32);
+            say(rt, b"bidder ", bidder as u32);
+            say(rt, b", round ", round as u32);
         }
-        Card::Refused(n) => say(b"refused ", n as u32),
+        Card::Refused(n) => say(rt, b"refused ", n as u32),
     }
     let lines = read.lines;
     let last = lines[7];
-    say(b", product 7 priority ", last.priority as u32);
-    io::write_all(STDOUT_FILENO, b"\n");
+    say(rt, b", product 7 priority ", last.priority as u32);
+    write(rt, b"\n");
 }
 
 fn wide(byte: u8) -> u32 {
     byte as u32
 }
 
-fn written_card() {
+fn written_card(rt: &impl Print) {
     let four = lot(255, 131071);
     let full = Line {
         tranches: Tranches(255),
@@ -301,11 +308,11 @@ fn written_card() {
     };
     let mut card = [0u8; 114];
     console::write(&mut card, 8, 31, 4095, [full; 8]);
-    say(b"the last byte is ", wide(card[113]));
-    io::write_all(STDOUT_FILENO, b"\n");
+    say(rt, b"the last byte is ", wide(card[113]));
+    write(rt, b"\n");
 }
 
-fn choose(state: &mut [u8], letter: u8) {
+fn choose(rt: &impl Input, state: &mut [u8], letter: u8) {
     match letter {
         b'w' => all_withdraw(state),
         b's' => all_switch(state),
@@ -313,36 +320,36 @@ fn choose(state: &mut [u8], letter: u8) {
         b'l' => all_in_lots(state),
         b'm' => all_outbid(state, in_lots()),
         b'x' => all_at_once(state),
+        // a state that ends early stands at the start
         b'r' => {
-            io::read_full(STDIN_FILENO, state);
+            let _ = rt.reader().read_exact(state);
         }
         _ => {}
     }
 }
 
-fn act(state: [u8; STATE], letter: u8) {
+fn act(rt: &impl Print, state: [u8; STATE], letter: u8) {
     match letter {
-        b'k' => calculated(state),
-        b'c' => counted(state),
-        b'b' => written(state),
-        b'a' => written_after(state),
-        b'p' => calculated_backwards(state),
-        b'n' => written_after_backwards(state),
-        b'd' => read_card(),
-        b'e' => written_card(),
+        b'k' => calculated(rt, state),
+        b'c' => counted(rt, state),
+        b'b' => written(rt, state),
+        b'a' => written_after(rt, state),
+        b'p' => calculated_backwards(rt, state),
+        b'n' => written_after_backwards(rt, state),
+        b'd' => read_card(rt),
+        b'e' => written_card(rt),
         _ => {}
     }
 }
 
-fn main() {
+fn main(rt: HostRuntime) {
     let mut state = [0u8; STATE];
-    let n = os::arg_count();
-    let mut i: usize = 1;
-    while i < n {
+    for i in 1..usize::MAX {
         let mut word = [0u8; 8];
-        os::arg(i, &mut word);
-        choose(&mut state, word[0]);
-        act(state, word[0]);
-        i += 1;
+        if let Err(FillError::NotPresent) = rt.arg(i, &mut word) {
+            return;
+        }
+        choose(&rt, &mut state, word[0]);
+        act(&rt, state, word[0]);
     }
 }

@@ -1,14 +1,25 @@
-// The status goes to descriptor 3 where the launcher asks for it: a program ends with 0.
 #![tactic(auto)]
 
-const STATUS: i32 = 3;
+ghost use Rattle.std.specs.Prelude.{◌≤◌, length};
+
+use std::rt::Env;
+
+// An argument at the start of the room: its length, or 0 where there is none or it is longer than the room.
+fn argument(rt: &impl Env, i: usize, room: &mut [u8]) -> usize
+    ensures { result ≤ length room.new }
+{
+    match rt.arg(i, room) {
+        Ok(n) => n,
+        Err(_) => 0,
+    }
+}
 
 // page --tell BOX [JOURNAL]
-fn main() {
+fn main(rt: HostRuntime) {
     let mut path = io::buffer();
-    let n = os::arg(2, &mut path);
+    let n = argument(&rt, 2, &mut path);
     let mut journal = io::buffer();
-    let j = os::arg(3, &mut journal);
-    let status = sheet::sheet(&path[..n], &journal[..j]);
-    io::print_decimal(STATUS, status as u64);
+    let j = argument(&rt, 3, &mut journal);
+    let status = sheet::sheet(&rt, &path[..n], &journal[..j]);
+    text::put_status(&rt, status);
 }

@@ -42,6 +42,7 @@ fn put_row(
 }
 
 fn put_rows(
+    rt: &impl Print,
     out: &mut [u8; ANSWER],
     at: usize,
     products: usize,
@@ -55,7 +56,7 @@ fn put_rows(
         if rounds < r {
             return to;
         }
-        to = room(out, to);
+        to = room(rt, out, to);
         to = put_row(out, to, products, r, prices, helds);
         r += 1;
     }
@@ -63,6 +64,7 @@ fn put_rows(
 }
 
 pub fn put_brief(
+    rt: &impl Print,
     out: &mut [u8; ANSWER],
     at: usize,
     names: &[u8; NAMES],
@@ -79,6 +81,6 @@ pub fn put_brief(
     );
     to = put_heads(out, to, names, products);
     to = put(out, to, b"</tr></thead><tbody>\n");
-    to = put_rows(out, to, products, rounds, prices, helds);
+    to = put_rows(rt, out, to, products, rounds, prices, helds);
     put(out, to, b"</tbody></table>\n</section>\n")
 }

@@ -495,6 +495,7 @@ fn put_label(
 }
 
 fn put_series(
+    rt: &impl Print,
     out: &mut [u8; ANSWER],
     at: usize,
     prices: &[u32; SERIES],
@@ -503,7 +504,7 @@ fn put_series(
     scale: Scale,
 ) -> usize {
     let numbers = [p as u64, p as u64];
-    let mut to = room(out, at);
+    let mut to = room(rt, out, at);
     to = fill(
         out,
         to,
@@ -517,6 +518,7 @@ fn put_series(
 }
 
 fn put_all_series(
+    rt: &impl Print,
     out: &mut [u8; ANSWER],
     at: usize,
     prices: &[u32; SERIES],
@@ -530,7 +532,7 @@ fn put_all_series(
         if products <= p {
             return to;
         }
-        to = put_series(out, to, prices, p, rounds, scale);
+        to = put_series(rt, out, to, prices, p, rounds, scale);
         p += 1;
     }
     to
@@ -603,6 +605,7 @@ fn lowest(prices: &[u32; SERIES], products: usize, rounds: u16) -> u32 {
 }
 
 pub fn put_price_chart(
+    rt: &impl Print,
     out: &mut [u8; ANSWER],
     at: usize,
     names: &[u8; NAMES],
@@ -633,7 +636,7 @@ pub fn put_price_chart(
         &numbers,
     );
     to = put_price_ticks(out, to, rounds);
-    to = put_all_series(out, to, prices, products, rounds, scale);
+    to = put_all_series(rt, out, to, prices, products, rounds, scale);
     to = put_labels(out, to, names, unit, prices, products, rounds, scale);
     put(out, to, b"</svg>\n")
 }
@@ -828,6 +831,7 @@ fn put_target(
 }
 
 fn put_held_chart(
+    rt: &impl Print,
     out: &mut [u8; ANSWER],
     at: usize,
     names: &[u8; NAMES],
@@ -843,7 +847,7 @@ fn put_held_chart(
     let target = book::target(s, p).0 as u32;
     let most = most_held(helds, p, rounds);
     let scale = scale_of(0, if most < first { first } else { most }, 4);
-    let mut to = room(out, at);
+    let mut to = room(rt, out, at);
     to = one(
         out,
         to,
@@ -867,6 +871,7 @@ fn put_held_chart(
 }
 
 pub fn put_held_charts(
+    rt: &impl Print,
     out: &mut [u8; ANSWER],
     at: usize,
     names: &[u8; NAMES],
@@ -880,7 +885,7 @@ pub fn put_held_charts(
     let mut p: usize = 0;
     while p < 8 {
         if p < n {
-            to = put_held_chart(out, to, names, opened, s, p, rounds, helds);
+            to = put_held_chart(rt, out, to, names, opened, s, p, rounds, helds);
         }
         p += 1;
     }

@@ -16,22 +16,22 @@ pub fn is_lost(at: usize) -> bool {
     ANSWER < at
 }
 
-pub fn flush(out: &[u8; ANSWER], at: usize) -> usize {
+pub fn flush(rt: &impl Print, out: &[u8; ANSWER], at: usize) -> usize {
     if ANSWER < at {
         return at;
     }
-    if send(out, at) {
+    if send(rt, out, at) {
         return 0;
     }
     LOST
 }
 
 // Room for a piece: no piece has more than half of the array.
-pub fn room(out: &[u8; ANSWER], at: usize) -> usize {
+pub fn room(rt: &impl Print, out: &[u8; ANSWER], at: usize) -> usize {
     if at < 32768 {
         return at;
     }
-    flush(out, at)
+    flush(rt, out, at)
 }
 
 // ---- Pieces with numbers

@@ -1,6 +1,7 @@
 // A bidder's or a product's number with its name, as the page has it.
 use crate::form::escape;
 use names::{NAMES, Whose};
+use std::rt::Files;
 use store::Filled;
 use text::{ANSWER, put, put_named};
 
@@ -16,12 +17,12 @@ fn take_part(room: &[u8; ANSWER], n: usize, names: &mut [u8; NAMES], out: &mut [
 }
 
 // The names beside a box; where there is no such file nobody has one.
-pub fn read_names(path: &[u8], names: &mut [u8; NAMES]) {
+pub fn read_names(rt: &impl Files, path: &[u8], names: &mut [u8; NAMES]) {
     let mut room = io::large_buffer();
     let mut told = io::large_buffer();
-    match store::load_names(path, &mut room) {
+    match store::load_names(rt, path, &mut room) {
         Filled::Bytes(n) => take_part(&room, n, names, &mut told),
-        Filled::Failed => {}
+        Filled::Failed(_) => {}
     }
 }
 

@@ -97,6 +97,7 @@ fn put_awards(
 }
 
 fn put_all_awards(
+    rt: &impl Print,
     out: &mut [u8; ANSWER],
     at: usize,
     names: &[u8; NAMES],
@@ -110,7 +111,7 @@ fn put_all_awards(
         if bidders <= b {
             return to;
         }
-        to = room(out, to);
+        to = room(rt, out, to);
         to = put_awards(out, to, names, all, b, products);
         b += 1;
     }
@@ -164,6 +165,7 @@ fn put_targets(out: &mut [u8; ANSWER], at: usize, s: &[u8; STATE], products: usi
 }
 
 fn put_result(
+    rt: &impl Print,
     out: &mut [u8; ANSWER],
     at: usize,
     names: &[u8; NAMES],
@@ -189,7 +191,7 @@ fn put_result(
     to = put(out, to, b"</th>");
     to = put_all_said(out, to, prices, products);
     to = put(out, to, b"<td></td></tr>\n");
-    to = put_all_awards(out, to, names, all, book::bidders(s), products);
+    to = put_all_awards(rt, out, to, names, all, book::bidders(s), products);
     to = put_totals(out, to, all, products);
     to = put_targets(out, to, s, products);
     put(out, to, b"</tbody></table>\n</section>\n")
@@ -250,8 +252,8 @@ fn put_stopped(out: &mut [u8; ANSWER], at: usize, s: &[u8; STATE]) -> usize {
     )
 }
 
-pub fn put_end(out: &mut [u8; ANSWER], at: usize, names: &[u8; NAMES], s: &[u8; STATE]) -> usize {
-    let to = room(out, at);
+pub fn put_end(rt: &impl Print, out: &mut [u8; ANSWER], at: usize, names: &[u8; NAMES], s: &[u8; STATE]) -> usize {
+    let to = room(rt, out, at);
     match Phase::of(book::phase(s)) {
         Phase::Open => put_open(out, to, names, s),
         Phase::Stopped => put_stopped(out, to, s),
@@ -263,7 +265,7 @@ pub fn put_end(out: &mut [u8; ANSWER], at: usize, names: &[u8; NAMES], s: &[u8; 
                 Award::Given => {
                     let all = given.tranches;
                     let prices = given.prices;
-                    put_result(out, to, names, s, all, prices)
+                    put_result(rt, out, to, names, s, all, prices)
                 }
                 Award::Refused(_) => to,
             }

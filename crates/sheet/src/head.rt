@@ -228,12 +228,13 @@ fn put_decrements(out: &mut [u8; ANSWER], at: usize, s: &[u8; STATE]) -> usize {
 
 // The settings as the auction was opened.
 pub fn put_settings(
+    rt: &impl Print,
     out: &mut [u8; ANSWER],
     at: usize,
     names: &[u8; NAMES],
     s: &[u8; STATE],
 ) -> usize {
-    let mut to = room(out, at);
+    let mut to = room(rt, out, at);
     let statewide = book::statewide(s);
     to = one(
         out,

@@ -12,29 +12,31 @@ use check::same;
 use layout::STATE;
 use names::NAMES;
 use paper::{ROUNDS, SERIES, flush, is_lost, note, place_at};
+use std::io::{ErrorKind, Read, Seek};
+use std::rt::Files;
 use store::Loaded;
-use text::{ANSWER, put, put_named, warn};
+use text::{ANSWER, Aside, put, put_named, warn};
 
 // Above so many rounds only those are told of in which something was kept, cancelled, deemed bid or outbid, with the first and the last.
 const MANY: usize = 60;
 
 // ---- What is wrong, in a line for the person who asked
 
-fn warn_first(told: &[u8], n: usize) {
+fn warn_first(rt: &impl Aside, told: &[u8], n: usize) {
     if n <= told.len() {
-        warn(&told[0..n]);
+        warn(rt, &told[0..n]);
     }
 }
 
-fn warn_part(told: &[u8; ANSWER], n: usize) {
-    warn_first(told, n);
+fn warn_part(rt: &impl Aside, told: &[u8; ANSWER], n: usize) {
+    warn_first(rt, told, n);
 }
 
-fn refuse(words: &[u8], status: u8) -> u8 {
+fn refuse(rt: &impl Aside, words: &[u8], status: u8) -> u8 {
     let mut told = io::large_buffer();
     let a = put(&mut told, 0, b"desk: no sheet: ");
     let n = put(&mut told, a, words);
-    warn_part(&told, n);
+    warn_part(rt, &told, n);
     status
 }
 
@@ -52,20 +54,20 @@ fn is_unread(fault: Fault) -> bool {
     false
 }
 
-fn refuse_fault(played: Played, out: &[u8; ANSWER]) -> u8 {
+fn refuse_fault(rt: &impl Aside, played: Played, out: &[u8; ANSWER]) -> u8 {
     let fault = played.fault;
     let mut told = io::large_buffer();
     let a = put_named(&mut told, 0, b"desk: no sheet: line ", played.lines);
     let b = put(&mut told, a, b" of the journal: ");
     let n = put_fault(&mut told, b, fault, out);
-    warn_part(&told, n);
+    warn_part(rt, &told, n);
     if is_unread(fault) {
         return UNUSABLE;
     }
     NOT_OK
 }
 
-fn refuse_torn(lines: u64) -> u8 {
+fn refuse_torn(rt: &impl Aside, lines: u64) -> u8 {
     let mut told = io::large_buffer();
     let a = put_named(&mut told, 0, b"desk: no sheet: after line ", lines);
     let n = put(
@@ -73,14 +75,14 @@ fn refuse_torn(lines: u64) -> u8 {
         a,
         b" of the journal a part of a line is left, of a call that was not finished\n",
     );
-    warn_part(&told, n);
+    warn_part(rt, &told, n);
     NOT_OK
 }
 
 // ---- The first time
 
-fn play(
-    fd: i32,
+fn play<F: Read + Seek>(
+    file: &mut F,
     held: &[u8; STATE],
     state: &mut [u8; STATE],
     prior: &mut [u8; STATE],
@@ -95,7 +97,7 @@ fn play(
     let mut played = begun();
     let mut turns = u64::MAX;
     while turns > 0 {
-        let turn = play_next(fd, place, played, held, state, prior, &mut before, out);
+        let turn = play_next(file, place, played, held, state, prior, &mut before, out);
         played = turn.played;
         if turn.ended {
             return played;
@@ -132,6 +134,7 @@ fn is_told(prior: &[u8; STATE], state: &[u8; STATE], r: usize, rounds: usize) ->
 
 // Tells of a line where it is the calculation of a round that stands. `first` is the state after round 1.
 fn tell(
+    rt: &impl Print,
     page: &mut [u8; ANSWER],
     at: usize,
     names: &[u8; NAMES],
@@ -151,10 +154,10 @@ fn tell(
     }
     let mut to = at;
     if r == 2 {
-        to = rounds::put_cutback(page, to, names, first, prior);
+        to = rounds::put_cutback(rt, page, to, names, first, prior);
     }
     if is_told(prior, state, r, rounds) {
-        to = rounds::put_round(page, to, names, prior, state);
+        to = rounds::put_round(rt, page, to, names, prior, state);
     }
     if r == 1 {
         copy_state(state, first);
@@ -163,8 +166,9 @@ fn tell(
 }
 
 // A journal that has become another between the two times is none.
-fn tell_all(
-    fd: i32,
+fn tell_all<F: Read + Seek>(
+    rt: &impl Print,
+    file: &mut F,
     page: &mut [u8; ANSWER],
     at: usize,
     names: &[u8; NAMES],
@@ -184,7 +188,7 @@ fn tell_all(
     let mut turns = u64::MAX;
     while turns > 0 {
         let turn = play_next(
-            fd,
+            file,
             place,
             played,
             last,
@@ -201,6 +205,7 @@ fn tell_all(
             return paper::lost();
         }
         to = tell(
+            rt,
             page, to, names, place, &prior, &state, first, places, rounds,
         );
         place = turn.place;
@@ -224,6 +229,7 @@ fn put_many(page: &mut [u8; ANSWER], at: usize, rounds: usize) -> usize {
 }
 
 fn put_charts(
+    rt: &impl Print,
     page: &mut [u8; ANSWER],
     at: usize,
     names: &[u8; NAMES],
@@ -245,7 +251,7 @@ fn put_charts(
         at,
         b"<section id=\"charts\">\n<h2>Prices by round</h2>\n",
     );
-    to = paper::put_price_chart(page, to, names, last, shown, prices);
+    to = paper::put_price_chart(rt, page, to, names, last, shown, prices);
     if 0 < rounds {
         to = put(
             page,
@@ -253,17 +259,18 @@ fn put_charts(
             b"<h2>Held against target by round</h2>\n<p class=\"lead\">Tranches held after each round; the target is the dashed line.</p>\n",
         );
         let told = if rounds < ROUNDS { rounds as u16 } else { 4095 };
-        to = paper::put_held_charts(page, to, names, opened, last, told, helds);
+        to = paper::put_held_charts(rt, page, to, names, opened, last, told, helds);
     }
     to = put(page, to, b"</section>\n");
     if MANY < rounds {
-        to = paper::put_brief(page, to, names, book::products(last), rounds, prices, helds);
+        to = paper::put_brief(rt, page, to, names, book::products(last), rounds, prices, helds);
     }
-    flush(page, to)
+    flush(rt, page, to)
 }
 
-fn put_rounds(
-    fd: i32,
+fn put_rounds<F: Read + Seek>(
+    rt: &impl Print,
+    file: &mut F,
     page: &mut [u8; ANSWER],
     at: usize,
     names: &[u8; NAMES],
@@ -280,19 +287,20 @@ fn put_rounds(
     }
     to = put_many(page, to, rounds);
     to = tell_all(
-        fd, page, to, names, last, lines, places, rounds, &mut first, out,
+        rt, file, page, to, names, last, lines, places, rounds, &mut first, out,
     );
     if rounds == 1 {
         if book::round(last) == 2 {
-            to = rounds::put_cutback(page, to, names, &first, last);
+            to = rounds::put_cutback(rt, page, to, names, &first, last);
         }
     }
     to = put(page, to, b"</section>\n");
-    flush(page, to)
+    flush(rt, page, to)
 }
 
-fn write_page(
-    fd: i32,
+fn write_page<R: Print + Aside, F: Read + Seek>(
+    rt: &R,
+    file: &mut F,
     path: &[u8],
     names: &[u8; NAMES],
     played: Played,
@@ -308,15 +316,15 @@ fn write_page(
     let rounds = paper::calculated(last, places);
     let lines = played.lines;
     let mut to = head::put_head(&mut page, 0, path, last, rounds, returned, played);
-    to = head::put_settings(&mut page, to, names, opened);
-    to = flush(&page, to);
-    to = put_charts(&mut page, to, names, opened, last, rounds, prices, helds);
-    to = put_rounds(fd, &mut page, to, names, last, lines, places, rounds, out);
-    to = ends::put_end(&mut page, to, names, last);
+    to = head::put_settings(rt, &mut page, to, names, opened);
+    to = flush(rt, &page, to);
+    to = put_charts(rt, &mut page, to, names, opened, last, rounds, prices, helds);
+    to = put_rounds(rt, file, &mut page, to, names, last, lines, places, rounds, out);
+    to = ends::put_end(rt, &mut page, to, names, last);
     to = head::put_foot(&mut page, to, played);
-    to = flush(&page, to);
+    to = flush(rt, &page, to);
     if is_lost(to) {
-        return refuse(b"it could not be written whole\n", UNUSABLE);
+        return refuse(rt, b"it could not be written whole\n", UNUSABLE);
     }
     FINE
 }
@@ -324,16 +332,22 @@ fn write_page(
 // ---- The box and its journal
 
 // The names belong to the auction that is in the box.
-fn names_of(path: &[u8], held: &[u8; STATE], state: &[u8; STATE]) -> [u8; NAMES] {
+fn names_of(
+    rt: &impl Files,
+    path: &[u8],
+    held: &[u8; STATE],
+    state: &[u8; STATE],
+) -> [u8; NAMES] {
     let mut names = names::none();
     if is_same(held, state) {
-        paper::read_names(path, &mut names);
+        paper::read_names(rt, path, &mut names);
     }
     names
 }
 
-fn page_of(
-    fd: i32,
+fn page_of<R: Files + Print + Aside>(
+    rt: &R,
+    file: &mut R::File,
     path: &[u8],
     held: &[u8; STATE],
     played: Played,
@@ -346,18 +360,24 @@ fn page_of(
     out: &mut [u8; ANSWER],
 ) -> u8 {
     if is_issued(last) {
-        return refuse(b"the journal has no auction\n", NOT_OK);
+        return refuse(rt, b"the journal has no auction\n", NOT_OK);
     }
     if book::phase(last) == rules::OPEN {
         paper::note_prices(last, book::round(last) as usize, prices);
     }
-    let names = names_of(path, held, last);
+    let names = names_of(rt, path, held, last);
     write_page(
-        fd, path, &names, played, returned, opened, last, places, prices, helds, out,
+        rt, file, path, &names, played, returned, opened, last, places, prices, helds, out,
     )
 }
 
-fn sheet_of(fd: i32, path: &[u8], named: bool, held: &[u8; STATE]) -> u8 {
+fn sheet_of<R: Files + Print + Aside>(
+    rt: &R,
+    file: &mut R::File,
+    path: &[u8],
+    named: bool,
+    held: &[u8; STATE],
+) -> u8 {
     let mut out = io::large_buffer();
     let mut state = [0u8; STATE];
     let mut prior = [0u8; STATE];
@@ -366,7 +386,7 @@ fn sheet_of(fd: i32, path: &[u8], named: bool, held: &[u8; STATE]) -> u8 {
     let mut prices = [0u32; SERIES];
     let mut helds = [0u16; SERIES];
     let played = play(
-        fd,
+        file,
         held,
         &mut state,
         &mut prior,
@@ -378,14 +398,15 @@ fn sheet_of(fd: i32, path: &[u8], named: bool, held: &[u8; STATE]) -> u8 {
     );
     let fault = played.fault;
     if !is_fine(fault) {
-        return refuse_fault(played, &out);
+        return refuse_fault(rt, played, &out);
     }
     if played.torn {
-        return refuse_torn(played.lines);
+        return refuse_torn(rt, played.lines);
     }
     if !named {
         if !is_same(held, &state) {
             return refuse(
+                rt,
                 b"the box is not what its journal leaves; desk --check BOX says more\n",
                 NOT_OK,
             );
@@ -395,7 +416,8 @@ fn sheet_of(fd: i32, path: &[u8], named: bool, held: &[u8; STATE]) -> u8 {
     if is_issued(&state) {
         copy_state(&prior, &mut state);
         return page_of(
-            fd,
+            rt,
+            file,
             path,
             held,
             played,
@@ -409,7 +431,8 @@ fn sheet_of(fd: i32, path: &[u8], named: bool, held: &[u8; STATE]) -> u8 {
         );
     }
     page_of(
-        fd,
+        rt,
+        file,
         path,
         held,
         played,
@@ -423,52 +446,62 @@ fn sheet_of(fd: i32, path: &[u8], named: bool, held: &[u8; STATE]) -> u8 {
     )
 }
 
-fn open_named(path: &[u8], journal: &[u8]) -> i32 {
+fn open_named<R: Files>(rt: &R, path: &[u8], journal: &[u8]) -> std::io::Result<R::File> {
     if journal.len() == 0 {
-        return store::open_journal(path);
+        return store::open_journal(rt, path);
     }
-    os::open_read(journal)
+    store::open_read(rt, journal)
 }
 
-fn of_journal(path: &[u8], journal: &[u8], held: &[u8; STATE]) -> u8 {
-    let fd = open_named(path, journal);
-    if fd < 0 {
-        if os::errno() == libc::ENOENT {
-            if journal.len() == 0 {
-                return refuse(b"the box has no journal\n", NOT_OK);
-            }
-            return refuse(b"there is no such journal\n", UNUSABLE);
+fn refuse_unread(rt: &impl Aside, kind: ErrorKind, journal: &[u8]) -> u8 {
+    if kind == ErrorKind::NotFound {
+        if journal.len() == 0 {
+            return refuse(rt, b"the box has no journal\n", NOT_OK);
         }
-        return refuse(b"the journal cannot be read\n", UNUSABLE);
+        return refuse(rt, b"there is no such journal\n", UNUSABLE);
     }
-    let status = sheet_of(fd, path, journal.len() != 0, held);
-    libc::close(fd);
-    status
+    refuse(rt, b"the journal cannot be read\n", UNUSABLE)
+}
+
+fn of_journal<R: Files + Print + Aside>(
+    rt: &R,
+    path: &[u8],
+    journal: &[u8],
+    held: &[u8; STATE],
+) -> u8 {
+    match open_named(rt, path, journal) {
+        Ok(opened) => {
+            let mut file = opened;
+            sheet_of(rt, &mut file, path, journal.len() != 0, held)
+        }
+        Err(e) => refuse_unread(rt, e.kind(), journal),
+    }
 }
 
 // Nothing but a file is ever opened as a box: a pipe would be waited for.
-fn is_no_file(path: &[u8]) -> bool {
-    let seen = store::seen(path);
-    seen.found & (seen.mode & libc::S_IFMT != libc::S_IFREG)
+fn is_no_file(rt: &impl Files, path: &[u8]) -> bool {
+    let seen = store::seen(rt, path);
+    seen.found & (seen.mode & look::KIND != look::FILE)
 }
 
-pub fn sheet(path: &[u8], journal: &[u8]) -> u8 {
+pub fn sheet<R: Files + Print + Aside>(rt: &R, path: &[u8], journal: &[u8]) -> u8 {
     let mut held = [0u8; STATE];
-    if is_no_file(path) {
-        return refuse(b"the box is no file\n", UNUSABLE);
+    if is_no_file(rt, path) {
+        return refuse(rt, b"the box is no file\n", UNUSABLE);
     }
-    match store::load(path, &mut held) {
-        Loaded::Whole => of_journal(path, journal, &held),
+    match store::load(rt, path, &mut held) {
+        Loaded::Whole => of_journal(rt, path, journal, &held),
         Loaded::Missing => {
-            if (journal.len() != 0) | store::is_beside(path, b".journal") {
-                return of_journal(path, journal, &held);
+            if (journal.len() != 0) | store::is_beside(rt, path, b".journal") {
+                return of_journal(rt, path, journal, &held);
             }
-            refuse(b"there is no such box\n", UNUSABLE)
+            refuse(rt, b"there is no such box\n", UNUSABLE)
         }
         Loaded::Wrong => refuse(
+            rt,
             b"the file has another length than a box: it is none\n",
             UNUSABLE,
         ),
-        Loaded::Unread(_) => refuse(b"the box cannot be read\n", UNUSABLE),
+        Loaded::Unread(_) => refuse(rt, b"the box cannot be read\n", UNUSABLE),
     }
 }

@@ -488,6 +488,7 @@ fn put_bidder_moves(
 }
 
 fn put_bidders(
+    rt: &impl Print,
     out: &mut [u8; ANSWER],
     at: usize,
     names: &[u8; NAMES],
@@ -501,7 +502,7 @@ fn put_bidders(
         if n <= b {
             return to;
         }
-        to = room(out, to);
+        to = room(rt, out, to);
         to = put_bidder_moves(out, to, names, before, after, b);
         b += 1;
     }
@@ -546,6 +547,7 @@ fn put_summary(
 }
 
 pub fn put_round(
+    rt: &impl Print,
     out: &mut [u8; ANSWER],
     at: usize,
     names: &[u8; NAMES],
@@ -553,7 +555,7 @@ pub fn put_round(
     after: &[u8; STATE],
 ) -> usize {
     let r = book::round(before) as u64;
-    let mut to = room(out, at);
+    let mut to = room(rt, out, at);
     let numbers = [r, r];
     to = fill(
         out,
@@ -563,9 +565,9 @@ pub fn put_round(
     );
     to = put_summary(out, to, names, before, after);
     to = put_products(out, to, names, before, after);
-    to = put_bidders(out, to, names, before, after);
+    to = put_bidders(rt, out, to, names, before, after);
     to = put(out, to, b"</section>\n");
-    room(out, to)
+    room(rt, out, to)
 }
 
 // ---- A cutback after round 1, from the state after that round to the one in which round 2 was bid
@@ -697,6 +699,7 @@ fn put_freed(
 }
 
 fn put_bidder_freed(
+    rt: &impl Print,
     out: &mut [u8; ANSWER],
     at: usize,
     names: &[u8; NAMES],
@@ -706,7 +709,7 @@ fn put_bidder_freed(
 ) -> usize
     requires { b < 32 }
 {
-    let mut to = room(out, at);
+    let mut to = room(rt, out, at);
     let mut p: usize = 0;
     while p < 8 {
         to = put_freed(out, to, names, first, second, b, p);
@@ -716,6 +719,7 @@ fn put_bidder_freed(
 }
 
 fn put_all_freed(
+    rt: &impl Print,
     out: &mut [u8; ANSWER],
     at: usize,
     names: &[u8; NAMES],
@@ -725,13 +729,14 @@ fn put_all_freed(
     let mut to = at;
     let mut b: usize = 0;
     while b < 32 {
-        to = put_bidder_freed(out, to, names, first, second, b);
+        to = put_bidder_freed(rt, out, to, names, first, second, b);
         b += 1;
     }
     to
 }
 
 pub fn put_cutback(
+    rt: &impl Print,
     out: &mut [u8; ANSWER],
     at: usize,
     names: &[u8; NAMES],
@@ -741,7 +746,7 @@ pub fn put_cutback(
     if !is_cut(first, second) {
         return at;
     }
-    let mut to = room(out, at);
+    let mut to = room(rt, out, at);
     to = one(
         out,
         to,
@@ -752,6 +757,6 @@ pub fn put_cutback(
     to = put(out, to, b"</th></tr></thead><tbody>\n");
     to = put_cut_rows(out, to, names, first, second);
     to = put(out, to, b"</tbody></table>\n");
-    to = put_all_freed(out, to, names, first, second);
+    to = put_all_freed(rt, out, to, names, first, second);
     put(out, to, b"</section>\n")
 }

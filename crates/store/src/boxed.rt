@@ -1,16 +1,20 @@
 // Where the state lives, and what is done with a state that a call has changed.
 ghost use Rattle.std.specs.Prelude.{cond, true, false, ◌≡◌};
 
-use crate::files::{Filled, Loaded, equal, load, read_whole, same};
+use crate::files::{Filled, Loaded, equal, filled_from, load, same};
 use crate::names::beside;
-use crate::reason::put_reason;
+use crate::reason::{number_of, put_reason};
 use crate::saving::{Act, Saved, Stage, save};
+use crate::system::{Numbered, open_read};
 use layout::STATE;
 use rules::Report;
+use std::fs::File;
+use std::io::ErrorKind;
+use std::rt::Files;
 use text::{ANSWER, put};
 
 // In the program alone; in a box file; or in a file of another length, which is never written.
-#[derive(Drop)]
+#[derive(Clone, Copy)]
 pub enum Kind {
     Loose,
     Filed,
@@ -149,7 +153,8 @@ fn first_line(answer: &[u8; ANSWER], n: usize) -> usize {
     i
 }
 
-fn keep_filed(
+fn keep_filed<R: Files<File = File> + Numbered>(
+    rt: &R,
     path: &[u8],
     act: Act,
     given: &[u8],
@@ -159,7 +164,7 @@ fn keep_filed(
     out: &mut [u8; ANSWER],
 ) -> Outcome {
     if equal(state, work) {
-        if same(path, state) {
+        if same(rt, path, state) {
             return kept(n);
         }
         return outcome_of(
@@ -172,13 +177,14 @@ fn keep_filed(
         );
     }
     let said = first_line(out, n);
-    let saved = save(path, act, given, out, said, state, work);
+    let saved = save(rt, path, act, given, out, said, state, work);
     outcome_of(saved, n, out)
 }
 
 // Saves a changed state where there is a box file, and keeps it only then: what is in memory is what is in the file. The first n bytes
 // of `out` are the call's answer, and stay it where the state is kept.
-pub fn keep(
+pub fn keep<R: Files<File = File> + Numbered>(
+    rt: &R,
     kind: Kind,
     path: &[u8],
     act: Act,
@@ -193,7 +199,7 @@ pub fn keep(
     let done = match kind {
         Kind::Wrong => return not_kept(0),
         Kind::Loose => kept(n),
-        Kind::Filed => keep_filed(path, act, given, n, state, &work, out),
+        Kind::Filed => keep_filed(rt, path, act, given, n, state, &work, out),
     };
     if done.kept {
         *state = work;
@@ -213,10 +219,15 @@ pub enum Undo {
     Strange,
 }
 
-pub fn copy_before(path: &[u8], state: &[u8; STATE], copy: &mut [u8; STATE]) -> Undo {
+pub fn copy_before(
+    rt: &impl Files,
+    path: &[u8],
+    state: &[u8; STATE],
+    copy: &mut [u8; STATE],
+) -> Undo {
     let mut before = io::buffer();
     let b = beside(path, b".before", &mut before);
-    match load(&before[..b], copy) {
+    match load(rt, &before[..b], copy) {
         Loaded::Missing => return Undo::Nothing,
         Loaded::Whole => {}
         Loaded::Wrong => return Undo::Strange,
@@ -258,36 +269,30 @@ pub fn number_on(kind: Kind, state: &[u8; STATE]) -> u8 {
 // ---- What is beside a box
 
 // Whether a file is there whose name is the box's with an ending.
-pub fn is_beside(path: &[u8], ending: &[u8]) -> bool {
+pub fn is_beside(rt: &impl Files, path: &[u8], ending: &[u8]) -> bool {
     let mut name = io::buffer();
     let n = beside(path, ending, &mut name);
-    let fd = os::open_read(&name[..n]);
-    if fd < 0 {
-        return false;
-    }
-    libc::close(fd);
-    true
+    open_read(rt, &name[..n]).is_ok()
 }
 
 // Reads the file of names beside the box: how many bytes it has, none where there is no such file.
-pub fn load_names(path: &[u8], room: &mut [u8; ANSWER]) -> Filled {
+pub fn load_names(rt: &impl Files, path: &[u8], room: &mut [u8; ANSWER]) -> Filled {
     let mut name = io::buffer();
     let n = beside(path, b".names", &mut name);
-    let fd = os::open_read(&name[..n]);
-    if fd < 0 {
-        if os::errno() == libc::ENOENT {
-            return Filled::Bytes(0);
+    match filled_from(rt, &name[..n], room) {
+        Ok(filled) => filled,
+        Err(e) => {
+            if e.kind() == ErrorKind::NotFound {
+                return Filled::Bytes(0);
+            }
+            Filled::Failed(number_of(&e))
         }
-        return Filled::Failed;
     }
-    let filled = read_whole(fd, room);
-    libc::close(fd);
-    filled
 }
 
-// Opens the box's journal for reading, and answers a descriptor or -1.
-pub fn open_journal(path: &[u8]) -> i32 {
+// Opens the box's journal for reading.
+pub fn open_journal<R: Files>(rt: &R, path: &[u8]) -> std::io::Result<R::File> {
     let mut name = io::buffer();
     let n = beside(path, b".journal", &mut name);
-    os::open_read(&name[..n])
+    open_read(rt, &name[..n])
 }

@@ -3,7 +3,12 @@ ghost use Rattle.std.specs.Prelude.{◌≡◌};
 ghost use Rattle.store.specs.Store.{Kept, of_length};
 
 use crate::names::folder_length;
+use crate::reason::number_of;
+use crate::system::open_read;
 use layout::STATE;
+use std::fs::OpenFile;
+use std::io::{ErrorKind, Read, Write};
+use std::rt::Files;
 use text::{read_again, write_whole};
 
 // A file longer than a state is seen to be.
@@ -25,22 +30,19 @@ pub enum Loaded {
 #[derive(Clone, Copy)]
 pub enum Filled {
     Bytes(usize),
-    Failed,
+    // With the system's number for the reason.
+    Failed(i32),
 }
 
 // Reads to the end of the file, or until buf is full.
-pub fn read_whole(fd: i32, buf: &mut [u8]) -> Filled {
+pub fn read_whole<F: Read>(file: &mut F, buf: &mut [u8]) -> Filled {
     let mut end = 0;
     while end < buf.len() {
-        let got = read_again(fd, &mut buf[end..]);
-        let n = io::count(got, &buf[end..]);
-        if n == 0 {
-            if got < 0 {
-                return Filled::Failed;
-            }
-            return Filled::Bytes(end);
+        match read_again(file, &mut buf[end..]) {
+            Ok(0) => return Filled::Bytes(end),
+            Ok(n) => end += n,
+            Err(e) => return Filled::Failed(number_of(&e)),
         }
-        end += n;
     }
     Filled::Bytes(end)
 }
@@ -64,25 +66,26 @@ fn taken(n: usize, room: &[u8; ROOM], state: &mut [u8; STATE]) -> Loaded
     Loaded::Wrong
 }
 
+// Opens the file, reads it and closes it.
+pub fn filled_from(rt: &impl Files, path: &[u8], room: &mut [u8]) -> std::io::Result<Filled> {
+    let mut file = open_read(rt, path)?;
+    Ok(read_whole(&mut file, room))
+}
+
 // The room has one byte more than a state, so that a longer file is told from a whole one.
-pub fn load(path: &[u8], state: &mut [u8; STATE]) -> Loaded
+pub fn load(rt: &impl Files, path: &[u8], state: &mut [u8; STATE]) -> Loaded
     ensures { Kept result state.old state.new }
 {
-    let fd = os::open_read(path);
-    if fd < 0 {
-        let why = os::errno();
-        if why == libc::ENOENT {
-            return Loaded::Missing;
-        }
-        return Loaded::Unread(why);
-    }
     let mut room = [0u8; ROOM];
-    let filled = read_whole(fd, &mut room);
-    let why = os::errno();
-    libc::close(fd);
-    match filled {
-        Filled::Failed => Loaded::Unread(why),
-        Filled::Bytes(n) => taken(n, &room, state),
+    match filled_from(rt, path, &mut room) {
+        Ok(Filled::Bytes(n)) => taken(n, &room, state),
+        Ok(Filled::Failed(why)) => Loaded::Unread(why),
+        Err(e) => {
+            if e.kind() == ErrorKind::NotFound {
+                return Loaded::Missing;
+            }
+            Loaded::Unread(number_of(&e))
+        }
     }
 }
 
@@ -91,9 +94,9 @@ pub fn equal(a: &[u8; STATE], b: &[u8; STATE]) -> bool {
 }
 
 // Whether the file holds the state still. No file counts as a box that is issued, all zero.
-pub fn same(path: &[u8], state: &[u8; STATE]) -> bool {
+pub fn same(rt: &impl Files, path: &[u8], state: &[u8; STATE]) -> bool {
     let mut held = [0u8; STATE];
-    match load(path, &mut held) {
+    match load(rt, path, &mut held) {
         Loaded::Missing => equal(&held, state),
         Loaded::Whole => equal(&held, state),
         Loaded::Wrong => false,
@@ -101,41 +104,35 @@ pub fn same(path: &[u8], state: &[u8; STATE]) -> bool {
     }
 }
 
-// Writes the bytes to the open file, brings them to its device and closes it: 0, or the system's number for what failed.
-pub fn write_synced(fd: i32, bytes: &[u8]) -> i32 {
-    let mut why = 0;
-    if !write_whole(fd, bytes) {
-        why = os::errno();
-    } else if libc::fsync(fd) < 0 {
-        why = os::errno();
+// 0, or the system's number for what failed.
+pub fn status_of(done: std::io::Result<()>) -> i32 {
+    match done {
+        Ok(()) => 0,
+        Err(e) => number_of(&e),
     }
-    if libc::close(fd) < 0 {
-        if why == 0 {
-            why = os::errno();
-        }
-    }
-    why
 }
 
-fn sync_named(folder: &[u8]) -> i32 {
-    let fd = os::open_read(folder);
-    if fd < 0 {
-        return os::errno();
-    }
-    let synced = libc::fsync(fd);
-    let why = os::errno();
-    libc::close(fd);
-    if synced < 0 {
-        return why;
-    }
-    0
+fn written<F: Write + OpenFile>(file: &mut F, bytes: &[u8]) -> std::io::Result<()> {
+    write_whole(file, bytes)?;
+    file.sync_all()
+}
+
+// Writes the bytes to the open file, brings them to its device and closes it: 0, or the system's number for what failed.
+pub fn write_synced<F: Write + OpenFile + Drop>(file: F, bytes: &[u8]) -> i32 {
+    let mut to = file;
+    status_of(written(&mut to, bytes))
+}
+
+fn sync_named(rt: &impl Files, folder: &[u8]) -> std::io::Result<()> {
+    let opened = open_read(rt, folder)?;
+    opened.sync_all()
 }
 
 // Brings the names in the path's folder to its device: 0, or the system's number for what failed.
-pub fn sync_folder(path: &[u8]) -> i32 {
+pub fn sync_folder(rt: &impl Files, path: &[u8]) -> i32 {
     let n = folder_length(path);
     if n == 0 {
-        return sync_named(b".");
+        return status_of(sync_named(rt, b"."));
     }
-    sync_named(&path[..n])
+    status_of(sync_named(rt, &path[..n]))
 }

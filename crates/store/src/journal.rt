@@ -5,8 +5,11 @@ ghost use Rattle.std.specs.Prelude.{true, ◌++◌, ◌≡◌, ◌+◌, ◌<◌,
 ghost use Rattle.sums.specs.Sum.{sha256_digits};
 
 use crate::files::{Filled, read_whole};
+use crate::reason::number_of;
+use crate::system::{go, open_read};
 use layout::STATE;
-use libc::{SEEK_CUR, SEEK_END, SEEK_SET};
+use std::io::{ErrorKind, Read, Seek, SeekFrom};
+use std::rt::Files;
 use text::{ANSWER, put};
 
 pub const SUM: usize = 64;
@@ -195,13 +198,13 @@ fn not_traced(trail: Trail) -> Trace {
 }
 
 // The last bytes of an open journal, which have its last lines, by the place of the first of them.
-fn trace_tail(fd: i32, from: i64, bytes: &[u8], state: &[u8; STATE]) -> Trace {
+fn trace_tail<F: Seek>(file: &mut F, from: i64, bytes: &[u8], state: &[u8; STATE]) -> Trace {
     let end = after_line_end(bytes, bytes.len());
     let last = line_before(bytes, end);
     let trail = trail_of(bytes, last, end, state);
     let sum = sum_at(bytes, last, end);
-    libc::lseek(fd, from, SEEK_SET);
-    let place = libc::lseek(fd, end as i64, SEEK_CUR);
+    go(file, SeekFrom::Start(from.cast_unsigned()));
+    let place = go(file, SeekFrom::Current(end as i64));
     Trace {
         trail,
         sum,
@@ -210,37 +213,50 @@ fn trace_tail(fd: i32, from: i64, bytes: &[u8], state: &[u8; STATE]) -> Trace {
 }
 
 // The first n of the bytes read.
-fn trace_part(fd: i32, from: i64, bytes: &[u8], n: usize, state: &[u8; STATE]) -> Trace {
+fn trace_part<F: Seek>(
+    file: &mut F,
+    from: i64,
+    bytes: &[u8],
+    n: usize,
+    state: &[u8; STATE],
+) -> Trace {
     if n <= bytes.len() {
-        return trace_tail(fd, from, &bytes[0..n], state);
+        return trace_tail(file, from, &bytes[0..n], state);
     }
-    trace_tail(fd, from, bytes, state)
+    trace_tail(file, from, bytes, state)
 }
 
-fn trace_open(fd: i32, state: &[u8; STATE]) -> Trace {
-    let mut from = libc::lseek(fd, -65536, SEEK_END);
+// Goes to where the last bytes begin that are looked at: the place, or -1.
+fn to_tail<F: Seek>(file: &mut F) -> i64 {
+    let from = go(file, SeekFrom::End(-65536));
     if from < 0 {
-        from = libc::lseek(fd, 0, SEEK_SET);
+        return go(file, SeekFrom::Start(0));
     }
+    from
+}
+
+fn trace_open<F: Read + Seek>(file: &mut F, state: &[u8; STATE]) -> Trace {
+    let from = to_tail(file);
     let mut tail = io::large_buffer();
-    match read_whole(fd, &mut tail) {
-        Filled::Bytes(n) => trace_part(fd, from, &tail, n, state),
-        Filled::Failed => not_traced(Trail::Unread(os::errno())),
+    match read_whole(file, &mut tail) {
+        Filled::Bytes(n) => trace_part(file, from, &tail, n, state),
+        Filled::Failed(why) => not_traced(Trail::Unread(why)),
     }
 }
 
-pub fn traced(journal: &[u8], state: &[u8; STATE]) -> Trace {
-    let fd = os::open_read(journal);
-    if fd < 0 {
-        let why = os::errno();
-        if why == libc::ENOENT {
-            return not_traced(Trail::None);
+pub fn traced(rt: &impl Files, journal: &[u8], state: &[u8; STATE]) -> Trace {
+    match open_read(rt, journal) {
+        Ok(opened) => {
+            let mut file = opened;
+            trace_open(&mut file, state)
         }
-        return not_traced(Trail::Unread(why));
+        Err(e) => {
+            if e.kind() == ErrorKind::NotFound {
+                return not_traced(Trail::None);
+            }
+            not_traced(Trail::Unread(number_of(&e)))
+        }
     }
-    let end = trace_open(fd, state);
-    libc::close(fd);
-    end
 }
 
 // Whether a line near the journal's end leaves this state.
@@ -269,19 +285,18 @@ fn is_left_in_first(bytes: &[u8], n: usize, state: &[u8; STATE]) -> bool {
     false
 }
 
-pub fn is_left(journal: &[u8], state: &[u8; STATE]) -> bool {
-    let fd = os::open_read(journal);
-    if fd < 0 {
-        return false;
-    }
-    if libc::lseek(fd, -65536, SEEK_END) < 0 {
-        libc::lseek(fd, 0, SEEK_SET);
-    }
+// Opens the file, reads its last bytes and closes it.
+fn tail_of(rt: &impl Files, journal: &[u8], tail: &mut [u8]) -> std::io::Result<Filled> {
+    let mut file = open_read(rt, journal)?;
+    to_tail(&mut file);
+    Ok(read_whole(&mut file, tail))
+}
+
+pub fn is_left(rt: &impl Files, journal: &[u8], state: &[u8; STATE]) -> bool {
     let mut tail = io::large_buffer();
-    let filled = read_whole(fd, &mut tail);
-    libc::close(fd);
-    match filled {
-        Filled::Bytes(n) => is_left_in_first(&tail, n, state),
-        Filled::Failed => false,
+    match tail_of(rt, journal, &mut tail) {
+        Ok(Filled::Bytes(n)) => is_left_in_first(&tail, n, state),
+        Ok(Filled::Failed(_)) => false,
+        Err(_) => false,
     }
 }

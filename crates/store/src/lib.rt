@@ -8,6 +8,7 @@ mod journal;
 mod names;
 mod reason;
 mod saving;
+mod system;
 
 pub use boxed::{
     Kind, Outcome, Undo, copy_before, is_beside, is_wrong, keep, load_names, number_on,
@@ -15,5 +16,6 @@ pub use boxed::{
 };
 pub use files::{Filled, Loaded, load};
 pub use journal::{SUM, fits, no_sum, sum_at};
-pub use reason::put_reason;
+pub use reason::{EINVAL, ENAMETOOLONG, put_reason};
 pub use saving::{Act, drop_names, save_names, seen};
+pub use system::{Numbered, open_read};

@@ -1,12 +1,9 @@
 // The names of the files beside a box: its path with an ending.
 ghost use Rattle.std.specs.Prelude.{◌≡◌, ◌++◌, ◌<◌, get_or, take};
 ghost use Rattle.io.specs.Counts.{IsPrefixLen};
-ghost use Rattle.libc.specs.Io.{Ended};
 
-use libc::PATH_MAX;
-
-// The longest path, without the 0 that ends it for the system.
-const LONGEST: usize = PATH_MAX - 1;
+// The longest path that the system takes, and the 0 that ends it there.
+const PATH_MAX: usize = 4096;
 
 fn name_byte(path: &[u8], ending: &[u8], i: usize) -> u8
     ensures { result ≡ get_or (path.now ++ ending.now) i 0 }
@@ -70,13 +67,4 @@ pub fn folder_length(path: &[u8]) -> usize
         n -= 1;
     }
     n
-}
-
-// A path as the system is handed one: a 0 after it.
-pub fn closed(path: [u8; PATH_MAX]) -> [u8; PATH_MAX]
-    ensures { Ended result }
-{
-    let mut name = path;
-    name[LONGEST] = 0;
-    name
 }

@@ -1,5 +1,39 @@
 // The system's number for a reason, in words where it is a common one.
+use std::io::Error;
 use text::{ANSWER, put, put_named};
+
+// Linux's numbers: std's kinds of errors tell some of them not apart.
+const ENOENT: i32 = 2;
+
+const EIO: i32 = 5;
+
+const EACCES: i32 = 13;
+
+pub const EEXIST: i32 = 17;
+
+const ENOTDIR: i32 = 20;
+
+const EISDIR: i32 = 21;
+
+pub const EINVAL: i32 = 22;
+
+const EFBIG: i32 = 27;
+
+const ENOSPC: i32 = 28;
+
+const EROFS: i32 = 30;
+
+pub const ENAMETOOLONG: i32 = 36;
+
+pub const EILSEQ: i32 = 84;
+
+// The system's number for an error. Of the others that std makes none comes of a call that the system took.
+pub fn number_of(e: &Error) -> i32 {
+    match e.raw_os_error() {
+        Some(why) => why,
+        None => EINVAL,
+    }
+}
 
 pub fn number(why: i32) -> u64 {
     if 0 < why {
@@ -10,35 +44,38 @@ pub fn number(why: i32) -> u64 {
 
 // The reasons that a disk gives.
 fn put_disk_reason(out: &mut [u8; ANSWER], at: usize, why: i32) -> usize {
-    if why == libc::ENOSPC {
+    if why == ENOSPC {
         return put(out, at, b"the disk is full");
     }
-    if why == libc::EFBIG {
+    if why == EFBIG {
         return put(out, at, b"the file would be larger than the system allows");
     }
-    if why == libc::EROFS {
+    if why == EROFS {
         return put(out, at, b"the disk is read-only");
     }
-    if why == libc::EIO {
+    if why == EIO {
         return put(out, at, b"the device fails");
+    }
+    if why == EILSEQ {
+        return put(out, at, b"its name is not UTF-8");
     }
     put_named(out, at, b"error number ", number(why))
 }
 
 pub fn put_reason(out: &mut [u8; ANSWER], at: usize, why: i32) -> usize {
-    if why == libc::EACCES {
+    if why == EACCES {
         return put(out, at, b"no permission");
     }
-    if why == libc::ENOENT {
+    if why == ENOENT {
         return put(out, at, b"its folder is missing");
     }
-    if why == libc::EISDIR {
+    if why == EISDIR {
         return put(out, at, b"it is a folder");
     }
-    if why == libc::ENOTDIR {
+    if why == ENOTDIR {
         return put(out, at, b"a part of its name is no folder");
     }
-    if why == libc::ENAMETOOLONG {
+    if why == ENAMETOOLONG {
         return put(out, at, b"its name is too long");
     }
     put_disk_reason(out, at, why)

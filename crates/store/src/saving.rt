@@ -1,12 +1,19 @@
 // How a changed state is saved. In this order: the copy before what cannot be undone, the journal's line, the box, what is closed or
 // removed after it; each brought to its device before the next. So a loss of power leaves the box before the call or after it, and a
 // journal that ends with the box's state or one line ahead of it.
-use crate::files::{Loaded, equal, load, same, sync_folder, write_synced};
+use crate::files::{Loaded, equal, load, same, status_of, sync_folder, write_synced};
 use crate::journal::{SUM, Trace, Trail, is_issued, is_left, no_sum, put_line, sum_at, traced};
-use crate::names::{beside, beside_numbered, closed};
+use crate::names::{beside, beside_numbered};
+use crate::reason::{EEXIST, ENAMETOOLONG, number_of};
+use crate::system::{Numbered, create, go, named, open_update, rename, unlink};
 use layout::STATE;
 use look::Seen;
-use text::ANSWER;
+use std::fs::{File, OpenFile, Permissions};
+use std::io::{ErrorKind, SeekFrom, Write};
+use std::os::unix::fs::{PermissionsExt, fchown};
+use std::process::id;
+use std::rt::Files;
+use text::{ANSWER, write_number};
 
 // What kind of call it was that changed the state.
 #[derive(Clone, Copy)]
@@ -50,11 +57,8 @@ pub struct Saved {
     pub why: i32,
 }
 
-fn stopped(stage: Stage) -> Saved {
-    Saved {
-        stage,
-        why: os::errno(),
-    }
+fn stopped(stage: Stage, why: i32) -> Saved {
+    Saved { stage, why }
 }
 
 fn done() -> Saved {
@@ -67,64 +71,65 @@ fn done() -> Saved {
 // ---- New files
 
 // A new file has the rights and, where the system allows it, the owner of the box. A box that is not there yet has none to keep.
-fn like(fd: i32, seen: Seen) -> bool {
+fn like(file: &File, seen: Seen) -> std::io::Result<()> {
     if !seen.found {
-        return true;
+        return Ok(());
     }
-    libc::fchown(fd, seen.owner, seen.group);
-    libc::fchmod(fd, seen.mode % 4096) == 0
+    let _ = fchown(file, Some(seen.owner), Some(seen.group));
+    file.set_permissions(Permissions::from_mode(seen.mode % 4096))
 }
 
-fn make(name: &[u8], seen: Seen) -> i32 {
-    let fd = os::create(name);
-    if fd < 0 {
-        return fd;
+fn make(rt: &impl Files<File = File>, name: &[u8], seen: Seen) -> std::io::Result<File> {
+    let file = create(rt, name)?;
+    if let Err(e) = like(&file, seen) {
+        drop(file);
+        let _ = unlink(rt, name);
+        return Err(e);
     }
-    if like(fd, seen) {
-        return fd;
-    }
-    libc::close(fd);
-    os::unlink(name);
-    -1
+    Ok(file)
 }
 
 // Writes the bytes to a new file and puts it in a place. The new file's name is this process's own, and is never another's file.
-fn place_by(name: &[u8], place: &[u8], bytes: &[u8], seen: Seen) -> Saved {
-    let fd = make(name, seen);
-    if fd < 0 {
-        return stopped(Stage::NotMade);
-    }
-    let why = write_synced(fd, bytes);
+fn place_by(
+    rt: &impl Files<File = File>,
+    name: &[u8],
+    place: &[u8],
+    bytes: &[u8],
+    seen: Seen,
+) -> Saved {
+    let file = match make(rt, name, seen) {
+        Ok(file) => file,
+        Err(e) => return stopped(Stage::NotMade, number_of(&e)),
+    };
+    let why = write_synced(file, bytes);
     if why != 0 {
-        os::unlink(name);
-        return Saved {
-            stage: Stage::NotWritten,
-            why,
-        };
+        let _ = unlink(rt, name);
+        return stopped(Stage::NotWritten, why);
     }
-    if os::rename(name, place) < 0 {
-        let failed = stopped(Stage::NotPlaced);
-        os::unlink(name);
-        return failed;
+    if let Err(e) = rename(rt, name, place) {
+        let _ = unlink(rt, name);
+        return stopped(Stage::NotPlaced, number_of(&e));
     }
     done()
 }
 
-fn process() -> u64 {
-    let n = libc::getpid();
-    if 0 < n {
-        return crate::reason::number(n);
-    }
-    0
+fn process(rt: &impl Numbered) -> u64 {
+    id(rt.process()) as u64
 }
 
-fn place(path: &[u8], place: &[u8], bytes: &[u8], seen: Seen) -> Saved {
+fn place<R: Files<File = File> + Numbered>(
+    rt: &R,
+    path: &[u8],
+    place: &[u8],
+    bytes: &[u8],
+    seen: Seen,
+) -> Saved {
     let mut name = io::buffer();
-    let n = beside_numbered(path, b".new.", process(), &mut name);
+    let n = beside_numbered(path, b".new.", process(rt), &mut name);
     if n == 0 {
-        return stopped(Stage::LongName);
+        return stopped(Stage::LongName, ENAMETOOLONG);
     }
-    place_by(&name[..n], place, bytes, seen)
+    place_by(rt, &name[..n], place, bytes, seen)
 }
 
 fn is_done(saved: Saved) -> bool {
@@ -138,41 +143,48 @@ fn is_done(saved: Saved) -> bool {
 // ---- The copy before what cannot be undone
 
 // A copy that is the state itself was left by a call that was not finished, or by an undo: nothing is undone by it.
-fn forget_same(before: &[u8], state: &[u8; STATE]) {
+fn forget_same(rt: &impl Files, before: &[u8], state: &[u8; STATE]) {
     let mut held = [0u8; STATE];
-    if let Loaded::Whole = load(before, &mut held) {
+    if let Loaded::Whole = load(rt, before, &mut held) {
         if equal(&held, state) {
-            os::unlink(before);
+            let _ = unlink(rt, before);
         }
     }
 }
 
-fn make_copy(path: &[u8], before: &[u8], state: &[u8; STATE], seen: Seen) -> Saved {
-    let placed = place(path, before, state, seen);
+fn make_copy<R: Files<File = File> + Numbered>(
+    rt: &R,
+    path: &[u8],
+    before: &[u8],
+    state: &[u8; STATE],
+    seen: Seen,
+) -> Saved {
+    let placed = place(rt, path, before, state, seen);
     if !is_done(placed) {
-        return Saved {
-            stage: Stage::Copy,
-            why: placed.why,
-        };
+        return stopped(Stage::Copy, placed.why);
     }
-    let why = sync_folder(path);
+    let why = sync_folder(rt, path);
     if why != 0 {
-        return Saved {
-            stage: Stage::Copy,
-            why,
-        };
+        return stopped(Stage::Copy, why);
     }
     done()
 }
 
-fn prepare(act: Act, path: &[u8], before: &[u8], state: &[u8; STATE], seen: Seen) -> Saved {
-    forget_same(before, state);
+fn prepare<R: Files<File = File> + Numbered>(
+    rt: &R,
+    act: Act,
+    path: &[u8],
+    before: &[u8],
+    state: &[u8; STATE],
+    seen: Seen,
+) -> Saved {
+    forget_same(rt, before, state);
     match act {
         Act::Plain => done(),
         Act::Undo => done(),
         Act::Opening => done(),
-        Act::Calculation => make_copy(path, before, state, seen),
-        Act::Return => make_copy(path, before, state, seen),
+        Act::Calculation => make_copy(rt, path, before, state, seen),
+        Act::Return => make_copy(rt, path, before, state, seen),
     }
 }
 
@@ -182,51 +194,60 @@ fn prepare(act: Act, path: &[u8], before: &[u8], state: &[u8; STATE], seen: Seen
 enum Aside {
     Done,
     Taken,
-    Failed,
+    // With the system's number for the reason.
+    Failed(i32),
 }
 
 // The name is made before it is used, so that no file is ever lost to it.
-fn aside_as(journal: &[u8], n: u64) -> Aside {
+fn aside_as(rt: &impl Files, journal: &[u8], n: u64) -> Aside {
     let mut name = io::buffer();
     let k = beside_numbered(journal, b".", n, &mut name);
     if k == 0 {
-        return Aside::Failed;
+        return Aside::Failed(ENAMETOOLONG);
     }
-    let fd = os::create(&name[..k]);
-    if fd < 0 {
-        if os::errno() == libc::EEXIST {
-            return Aside::Taken;
+    match create(rt, &name[..k]) {
+        Ok(file) => drop(file),
+        Err(e) => {
+            if e.kind() == ErrorKind::AlreadyExists {
+                return Aside::Taken;
+            }
+            return Aside::Failed(number_of(&e));
         }
-        return Aside::Failed;
     }
-    libc::close(fd);
-    if os::rename(journal, &name[..k]) < 0 {
-        os::unlink(&name[..k]);
-        return Aside::Failed;
+    if let Err(e) = rename(rt, journal, &name[..k]) {
+        let _ = unlink(rt, &name[..k]);
+        return Aside::Failed(number_of(&e));
     }
     Aside::Done
 }
 
-// A journal that is closed, or another box's, is kept under the first number that is free: BOX.journal.1, and so on.
-fn set_aside(journal: &[u8]) -> bool {
+// A journal that is closed, or another box's, is kept under the first number that is free: BOX.journal.1, and so on. 0, or the system's
+// number for what failed.
+fn set_aside(rt: &impl Files, journal: &[u8]) -> i32 {
     let mut n = 1;
     while n < 100000 {
-        match aside_as(journal, n) {
-            Aside::Done => return true,
+        match aside_as(rt, journal, n) {
+            Aside::Done => return 0,
             Aside::Taken => {}
-            Aside::Failed => return false,
+            Aside::Failed(why) => return why,
         }
         n += 1;
     }
-    false
+    EEXIST
 }
 
 // Whether the journal of that number was closed by a return from a state.
-fn is_closed_from(journal: &[u8], n: u64, state: &[u8; STATE], copy: &[u8; STATE]) -> bool {
+fn is_closed_from(
+    rt: &impl Files,
+    journal: &[u8],
+    n: u64,
+    state: &[u8; STATE],
+    copy: &[u8; STATE],
+) -> bool {
     let mut name = io::buffer();
     let k = beside_numbered(journal, b".", n, &mut name);
-    let at_end = traced(&name[..k], state);
-    let at_copy = traced(&name[..k], copy);
+    let at_end = traced(rt, &name[..k], state);
+    let at_copy = traced(rt, &name[..k], copy);
     let end = at_end.trail;
     let before = at_copy.trail;
     if let Trail::Goes = end {
@@ -238,10 +259,15 @@ fn is_closed_from(journal: &[u8], n: u64, state: &[u8; STATE], copy: &[u8; STATE
 }
 
 // The number of the journal that was closed so, or 0.
-fn number_closed(journal: &[u8], state: &[u8; STATE], copy: &[u8; STATE]) -> u64 {
+fn number_closed(
+    rt: &impl Files,
+    journal: &[u8],
+    state: &[u8; STATE],
+    copy: &[u8; STATE],
+) -> u64 {
     let mut n = 1;
     while n < 1000 {
-        if is_closed_from(journal, n, state, copy) {
+        if is_closed_from(rt, journal, n, state, copy) {
             return n;
         }
         n += 1;
@@ -250,14 +276,19 @@ fn number_closed(journal: &[u8], state: &[u8; STATE], copy: &[u8; STATE]) -> u64
 }
 
 // The journal that was closed by the return from a state goes on.
-fn bring_back(journal: &[u8], state: &[u8; STATE], copy: &[u8; STATE]) -> bool {
-    let n = number_closed(journal, state, copy);
+fn bring_back(
+    rt: &impl Files,
+    journal: &[u8],
+    state: &[u8; STATE],
+    copy: &[u8; STATE],
+) -> bool {
+    let n = number_closed(rt, journal, state, copy);
     let mut name = io::buffer();
     let k = beside_numbered(journal, b".", n, &mut name);
     if n == 0 {
         return false;
     }
-    os::rename(&name[..k], journal) == 0
+    rename(rt, &name[..k], journal).is_ok()
 }
 
 // Where lines go: into a new journal, or after the last whole line of one that is there.
@@ -267,62 +298,82 @@ struct Spot {
     end: i64,
 }
 
-// Lines of a call that could not be saved go out again: nothing was said of it.
-fn take_back(journal: &[u8], spot: Spot) -> bool {
-    if spot.fresh {
-        if os::unlink(journal) < 0 {
-            return os::errno() == libc::ENOENT;
+// Takes a file away: 0, also where there is none, or the system's number for what failed.
+fn removed(rt: &impl Files, name: &[u8]) -> i32 {
+    match unlink(rt, name) {
+        Ok(()) => 0,
+        Err(e) => {
+            if e.kind() == ErrorKind::NotFound {
+                return 0;
+            }
+            number_of(&e)
         }
-        return true;
     }
-    let fd = os::open_update(journal);
-    if fd < 0 {
-        return false;
+}
+
+// Lines of a call that could not be saved go out again: nothing was said of it.
+fn take_back(rt: &impl Files, journal: &[u8], spot: Spot) -> bool {
+    if spot.fresh {
+        return removed(rt, journal) == 0;
     }
-    let cut = libc::ftruncate(fd, spot.end);
-    let synced = libc::fsync(fd);
-    libc::close(fd);
-    if cut == 0 {
-        return synced == 0;
+    match open_update(rt, journal) {
+        Ok(file) => {
+            let cut = file.set_len(spot.end.cast_unsigned());
+            let synced = file.sync_all();
+            cut.is_ok() & synced.is_ok()
+        }
+        Err(_) => false,
     }
-    false
 }
 
 // The first n bytes of the lines.
-fn write_part(fd: i32, lines: &[u8], n: usize) -> i32 {
+fn write_part<F: Write + OpenFile + Drop>(file: F, lines: &[u8], n: usize) -> i32 {
     if n <= lines.len() {
-        return write_synced(fd, &lines[0..n]);
+        return write_synced(file, &lines[0..n]);
     }
-    write_synced(fd, lines)
+    write_synced(file, lines)
 }
 
-fn write_fresh(path: &[u8], journal: &[u8], lines: &[u8; ANSWER], n: usize, seen: Seen) -> i32 {
-    let fd = make(journal, seen);
-    if fd < 0 {
-        return os::errno();
-    }
-    let why = write_part(fd, lines, n);
+fn write_fresh(
+    rt: &impl Files<File = File>,
+    path: &[u8],
+    journal: &[u8],
+    lines: &[u8; ANSWER],
+    n: usize,
+    seen: Seen,
+) -> i32 {
+    let file = match make(rt, journal, seen) {
+        Ok(file) => file,
+        Err(e) => return number_of(&e),
+    };
+    let why = write_part(file, lines, n);
     if why != 0 {
         return why;
     }
-    sync_folder(path)
+    sync_folder(rt, path)
 }
 
-fn write_after(journal: &[u8], end: i64, lines: &[u8; ANSWER], n: usize) -> i32 {
-    let fd = os::open_update(journal);
-    if fd < 0 {
-        return os::errno();
-    }
-    if libc::ftruncate(fd, end) < 0 {
-        let why = os::errno();
-        libc::close(fd);
+fn write_after(
+    rt: &impl Files,
+    journal: &[u8],
+    end: i64,
+    lines: &[u8; ANSWER],
+    n: usize,
+) -> i32 {
+    let mut file = match open_update(rt, journal) {
+        Ok(file) => file,
+        Err(e) => return number_of(&e),
+    };
+    let why = status_of(file.set_len(end.cast_unsigned()));
+    if why != 0 {
         return why;
     }
-    libc::lseek(fd, end, libc::SEEK_SET);
-    write_part(fd, lines, n)
+    go(&mut file, SeekFrom::Start(end.cast_unsigned()));
+    write_part(file, lines, n)
 }
 
 fn write_lines(
+    rt: &impl Files<File = File>,
     path: &[u8],
     journal: &[u8],
     spot: Spot,
@@ -331,33 +382,33 @@ fn write_lines(
     seen: Seen,
 ) -> Saved {
     let why = if spot.fresh {
-        write_fresh(path, journal, lines, n, seen)
+        write_fresh(rt, path, journal, lines, n, seen)
     } else {
-        write_after(journal, spot.end, lines, n)
+        write_after(rt, journal, spot.end, lines, n)
     };
     if why == 0 {
         return done();
     }
-    if take_back(journal, spot) {
-        return Saved {
-            stage: Stage::Journal,
-            why,
-        };
+    if take_back(rt, journal, spot) {
+        return stopped(Stage::Journal, why);
     }
-    Saved {
-        stage: Stage::Ahead,
-        why,
-    }
+    stopped(Stage::Ahead, why)
 }
 
 // How the journal ends that this call goes into. The journal of an auction whose return is undone goes on.
-fn traced_for(act: Act, journal: &[u8], state: &[u8; STATE], work: &[u8; STATE]) -> Trace {
-    let found = traced(journal, state);
+fn traced_for(
+    rt: &impl Files,
+    act: Act,
+    journal: &[u8],
+    state: &[u8; STATE],
+    work: &[u8; STATE],
+) -> Trace {
+    let found = traced(rt, journal, state);
     let trail = found.trail;
     if let Act::Undo = act {
         if let Trail::None = trail {
-            if bring_back(journal, state, work) {
-                return traced(journal, state);
+            if bring_back(rt, journal, state, work) {
+                return traced(rt, journal, state);
             }
         }
     }
@@ -365,12 +416,18 @@ fn traced_for(act: Act, journal: &[u8], state: &[u8; STATE], work: &[u8; STATE])
 }
 
 // Whether an undo puts back a state that this journal has, and the box is where the journal ends.
-fn is_known(act: Act, trail: Trail, journal: &[u8], work: &[u8; STATE]) -> bool {
+fn is_known(
+    rt: &impl Files,
+    act: Act,
+    trail: Trail,
+    journal: &[u8],
+    work: &[u8; STATE],
+) -> bool {
     if let Act::Undo = act {
         if begins(act, trail) {
             return false;
         }
-        return is_left(journal, work);
+        return is_left(rt, journal, work);
     }
     true
 }
@@ -389,15 +446,12 @@ fn begins(act: Act, trail: Trail) -> bool {
     }
 }
 
-// A journal that another begins beside is set aside; of one without a whole line nothing is kept.
-fn cleared(trail: Trail, journal: &[u8]) -> bool {
+// A journal that another begins beside is set aside; of one without a whole line nothing is kept. 0, or the system's number for what failed.
+fn cleared(rt: &impl Files, trail: Trail, journal: &[u8]) -> i32 {
     if let Trail::None = trail {
-        if os::unlink(journal) < 0 {
-            return os::errno() == libc::ENOENT;
-        }
-        return true;
+        return removed(rt, journal);
     }
-    set_aside(journal)
+    set_aside(rt, journal)
 }
 
 // A line that says how the journal comes to the state before the call, where it does not end there: the place after it.
@@ -462,6 +516,7 @@ fn not_logged(stage: Stage, why: i32) -> Logged {
 }
 
 fn log(
+    rt: &impl Files<File = File>,
     path: &[u8],
     journal: &[u8],
     act: Act,
@@ -472,19 +527,20 @@ fn log(
     work: &[u8; STATE],
     seen: Seen,
 ) -> Logged {
-    let found = traced_for(act, journal, state, work);
+    let found = traced_for(rt, act, journal, state, work);
     let trail = found.trail;
     if let Trail::Unread(why) = trail {
         return not_logged(Stage::Journal, why);
     }
-    if !is_known(act, trail, journal, work) {
+    if !is_known(rt, act, trail, journal, work) {
         return not_logged(Stage::Foreign, 0);
     }
     let fresh = begins(act, trail);
     let mut sum = found.sum;
     if fresh {
-        if !cleared(trail, journal) {
-            return not_logged(Stage::Journal, os::errno());
+        let why = cleared(rt, trail, journal);
+        if why != 0 {
+            return not_logged(Stage::Journal, why);
         }
         sum = no_sum();
     }
@@ -496,95 +552,88 @@ fn log(
         fresh,
         end: found.end,
     };
-    let saved = write_lines(path, journal, spot, &lines, end, seen);
+    let saved = write_lines(rt, path, journal, spot, &lines, end, seen);
     Logged { saved, spot }
 }
 
 // ---- The names of bidders and products
 
 // The names of an auction are gone with it.
-pub fn drop_names(path: &[u8]) {
+pub fn drop_names(rt: &impl Files, path: &[u8]) {
     let mut names = io::buffer();
     let n = beside(path, b".names", &mut names);
     if n != 0 {
-        os::unlink(&names[..n]);
+        let _ = unlink(rt, &names[..n]);
     }
 }
 
 // Puts the file of names in its place, or takes it away where it would be empty: 0, or the system's number for what failed.
-pub fn save_names(path: &[u8], bytes: &[u8]) -> i32 {
+pub fn save_names<R: Files<File = File> + Numbered>(rt: &R, path: &[u8], bytes: &[u8]) -> i32 {
     let mut names = io::buffer();
     let n = beside(path, b".names", &mut names);
     if n == 0 {
-        return libc::ENAMETOOLONG;
+        return ENAMETOOLONG;
     }
     if bytes.len() == 0 {
-        drop_names(path);
-        return sync_folder(path);
+        drop_names(rt, path);
+        return sync_folder(rt, path);
     }
-    let placed = place(path, &names[..n], bytes, seen(path));
+    let placed = place(rt, path, &names[..n], bytes, seen(rt, path));
     if !is_done(placed) {
         return placed.why;
     }
-    sync_folder(path)
+    sync_folder(rt, path)
 }
 
 // ---- All of it
 
-fn finish(act: Act, path: &[u8], before: &[u8], journal: &[u8]) -> Saved {
-    let mut why = sync_folder(path);
+fn finish(rt: &impl Files, act: Act, path: &[u8], before: &[u8], journal: &[u8]) -> Saved {
+    let mut why = sync_folder(rt, path);
     if why == 0 {
         match act {
             Act::Plain => return done(),
             Act::Calculation => return done(),
             Act::Return => {
-                set_aside(journal);
-                drop_names(path);
+                set_aside(rt, journal);
+                drop_names(rt, path);
             }
             // What was kept of an earlier auction ends with the next, and a copy that was put back is used up.
             Act::Opening => {
-                os::unlink(before);
+                let _ = unlink(rt, before);
             }
             Act::Undo => {
-                os::unlink(before);
+                let _ = unlink(rt, before);
             }
         }
-        why = sync_folder(path);
+        why = sync_folder(rt, path);
     }
     if why == 0 {
         return done();
     }
-    Saved {
-        stage: Stage::Unsure,
-        why,
-    }
+    stopped(Stage::Unsure, why)
 }
 
 // What the system says of the box.
-pub fn seen(path: &[u8]) -> Seen {
-    let mut name = io::buffer();
-    beside(path, b"", &mut name);
-    let ended = closed(name);
-    look::seen_of(&ended)
+pub fn seen(rt: &impl Files, path: &[u8]) -> Seen {
+    match named(path) {
+        Ok(name) => look::seen_of(rt, name),
+        Err(_) => look::unseen(),
+    }
 }
 
 // A box without any right to write is not replaced, not even by one who may do everything.
-fn is_read_only(path: &[u8], seen: Seen) -> bool {
+fn is_read_only(rt: &impl Files, path: &[u8], seen: Seen) -> bool {
     if !seen.found {
         return false;
     }
     if seen.mode & 0o222 == 0 {
         return true;
     }
-    let fd = os::open_update(path);
-    if fd < 0 {
-        return true;
-    }
-    libc::close(fd);
-    false
+    open_update(rt, path).is_err()
 }
 
-fn save_held(
+fn save_held<R: Files<File = File> + Numbered>(
+    rt: &R,
     path: &[u8],
     before: &[u8],
     journal: &[u8],
@@ -595,50 +644,53 @@ fn save_held(
     state: &[u8; STATE],
     work: &[u8; STATE],
 ) -> Saved {
-    if !same(path, state) {
-        return stopped(Stage::Changed);
+    if !same(rt, path, state) {
+        return stopped(Stage::Changed, 0);
     }
-    let seen = seen(path);
-    if is_read_only(path, seen) {
-        return stopped(Stage::ReadOnly);
+    let seen = seen(rt, path);
+    if is_read_only(rt, path, seen) {
+        return stopped(Stage::ReadOnly, 0);
     }
-    let ready = prepare(act, path, before, state, seen);
+    let ready = prepare(rt, act, path, before, state, seen);
     if !is_done(ready) {
         return ready;
     }
-    let logged = log(path, journal, act, given, answer, n, state, work, seen);
+    let logged = log(
+        rt, path, journal, act, given, answer, n, state, work, seen,
+    );
     let saved = logged.saved;
     if !is_done(saved) {
         return saved;
     }
-    let placed = place(path, path, work, seen);
+    let placed = place(rt, path, path, work, seen);
     if is_done(placed) {
-        return finish(act, path, before, journal);
+        return finish(rt, act, path, before, journal);
     }
-    if take_back(journal, logged.spot) {
+    if take_back(rt, journal, logged.spot) {
         return placed;
     }
-    Saved {
-        stage: Stage::Ahead,
-        why: placed.why,
-    }
+    stopped(Stage::Ahead, placed.why)
 }
 
 // Whether no other desk saves: its own file says so, and which process made it. Another's is never removed.
-fn hold(saving: &[u8]) -> Saved {
-    let fd = os::create(saving);
-    if fd < 0 {
-        if os::errno() == libc::EEXIST {
-            return stopped(Stage::Busy);
+fn hold<R: Files + Numbered>(rt: &R, saving: &[u8]) -> Saved {
+    match create(rt, saving) {
+        Ok(made) => {
+            let mut file = made;
+            write_number(&mut file, process(rt));
+            done()
         }
-        return stopped(Stage::NotMade);
+        Err(e) => {
+            if e.kind() == ErrorKind::AlreadyExists {
+                return stopped(Stage::Busy, 0);
+            }
+            stopped(Stage::NotMade, number_of(&e))
+        }
     }
-    io::print_decimal(fd, process());
-    libc::close(fd);
-    done()
 }
 
-pub fn save(
+pub fn save<R: Files<File = File> + Numbered>(
+    rt: &R,
     path: &[u8],
     act: Act,
     given: &[u8],
@@ -654,13 +706,14 @@ pub fn save(
     let b = beside(path, b".before", &mut before);
     let j = beside(path, b".journal", &mut journal);
     if (s == 0) | (b == 0) | (j == 0) {
-        return stopped(Stage::LongName);
+        return stopped(Stage::LongName, ENAMETOOLONG);
     }
-    let held = hold(&saving[..s]);
+    let held = hold(rt, &saving[..s]);
     if !is_done(held) {
         return held;
     }
     let saved = save_held(
+        rt,
         path,
         &before[..b],
         &journal[..j],
@@ -671,6 +724,6 @@ pub fn save(
         state,
         work,
     );
-    os::unlink(&saving[..s]);
+    let _ = unlink(rt, &saving[..s]);
     saved
 }

@@ -4,8 +4,7 @@ ghost use Rattle.std.specs.Prelude.{◌≡◌, ◌+◌, ◌≤◌, length};
 ghost use Rattle.std.proofs.Math.Seq.{paste};
 ghost use Rattle.text.specs.Put.{put_at};
 
-use crate::moved::write_whole;
-use libc::{STDERR_FILENO, STDOUT_FILENO};
+use crate::moved::{Aside, write_whole};
 
 // More than any answer has.
 pub const ANSWER: usize = 65536;
@@ -57,21 +56,21 @@ pub fn put_hex(out: &mut [u8; ANSWER], at: usize, bytes: &[u8]) -> usize {
     to
 }
 
-fn send_part(out: &[u8], n: usize) -> bool {
+fn send_part(rt: &impl Print, out: &[u8], n: usize) -> bool {
     if n <= out.len() {
-        return write_whole(STDOUT_FILENO, &out[0..n]);
+        return write_whole(&mut std::io::writer(rt), &out[0..n]).is_ok();
     }
     false
 }
 
 // Writes the first n bytes that were gathered: whether all were taken.
-pub fn send(out: &[u8; ANSWER], n: usize) -> bool {
-    send_part(out, n)
+pub fn send(rt: &impl Print, out: &[u8; ANSWER], n: usize) -> bool {
+    send_part(rt, out, n)
 }
 
 // A line for the person at the desk, beside the answers; nobody is left to tell where it cannot be written.
-pub fn warn(w: &[u8]) {
-    write_whole(STDERR_FILENO, w);
+pub fn warn(rt: &impl Aside, w: &[u8]) {
+    let _ = write_whole(&mut rt.stderr(), w);
 }
 
 // `, column N`, and the line's end. Columns are counted from 1.

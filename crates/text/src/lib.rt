@@ -15,7 +15,7 @@ pub use answer::{ANSWER, put, put_hex, put_named, send, warn, wrong, wrong_numbe
 pub use hex::{Hex, take_hex};
 pub use input::{Input, join_lines, keep_rest, next_end, skip_on};
 pub use lines::control_at;
-pub use moved::{read_again, write_whole};
+pub use moved::{Aside, put_status, read_again, write_number, write_whole};
 pub use number::{Read, Take, read_number, take_number};
 
 // A place in a line.
