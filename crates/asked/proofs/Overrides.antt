@@ -38,7 +38,7 @@ module _ (s : List ℕ) (c : Cursor) (n : ℕ) (os z : List Chosen) {t : Take} (
   module _ (p : ℕ) (next : Cursor) (d : t ≡ take.Number p next) where
     pub no_product : 7 < p → os ≡ z
     unfolding overrides_from
-    no_product_lem k = let f : 9 - n ≡ suc (9 - (n + 1)) = omega arith in rw (f, sym e ∙ d, lt-ltb 7 p k) at i
+    no_product k = let f : 9 - n ≡ suc (9 - (n + 1)) = omega arith in rw (f, sym e ∙ d, lt-ltb 7 p k) at i
 
     module _ {b : Bool} (k : p ≤ 7) (g : b ≡ is_given (override_for os p)) where
       pub twice : b ≡ true → os ≡ z

@@ -1,0 +1,14 @@
+use Rattle.rules.proofs.Fill.{none_filled, one_more, all_filled}
+use native.Mathlib.Omega.{arith}
+use Prim.Native.Nat.{◌-◌}
+use borrow.Author.Rules.{rules}
+use Rattle.asked.proofs.opening.rows_of.Goals as goal
+
+pub loop-i-preserved : goal.loop-i-preserved
+loop-i-preserved c = one_more _ c.loop-i.invariant (omega arith) (rw (c.two_bytes-in-loop-i.ensures, c.two_bytes.ensures))
+
+pub loop-i-init : goal.loop-i-init
+loop-i-init c = none_filled _ (search rules)
+
+pub returns : goal.returns
+returns c = all_filled c.loop-i.invariant (omega arith)
