@@ -1,12 +1,12 @@
 -- What a field's answer says, where the field lies inside the card. Assumes nothing.
 use mathlib.Core.Path.{◌≡◌}
 use mathlib.Core.List.{List}
-use Prim.Native.Nat.{ℕ, ◌+◌, ◌*◌, ◌^◌, ◌<◌}
+use Prim.Native.Nat.{ℕ, ◌+◌, ◌*◌, ◌^◌, ◌≤◌, ◌<◌}
 use native.Mathlib.Decide.{dec_lt}
 use native.Mathlib.Omega.{arith}
 use lib.ListN.{length}
 use borrow.Author.Tests.{le-leb, lt-leb}
-use Rattle.rules.specs.declared.Field.TheVariants.{Value}
+use Rattle.rules.specs.declared.Field.TheVariants.{Value, Past}
 use Rattle.rules.specs.Bits.{field_at}
 use Rattle.bits.specs.Fields.{Inside, field_in, next_at}
 
@@ -35,3 +35,20 @@ next_fits s at w h =
                 ]
           ]
     ]
+
+-- ---- the same, by what is tested
+
+pub field_inside : (s : List ℕ) (at w : ℕ) → length s ≤ 114 → w ≤ 17 → at + w ≤ 8 * length s → field_in s at w ≡ Value (field_at s at w)
+field_inside s at w l n i = field_in_lem s at w (record { inside = i; narrow = n; short = l })
+
+pub field_long : (s : List ℕ) (at w : ℕ) → 114 < length s → field_in s at w ≡ Past
+unfolding field_in
+field_long s at w h = simp (lt-leb (length s) 114 h)
+
+pub field_wide : (s : List ℕ) (at w : ℕ) → length s ≤ 114 → 17 < w → field_in s at w ≡ Past
+unfolding field_in
+field_wide s at w l h = simp (le-leb (length s) 114 l, lt-leb w 17 h)
+
+pub field_beyond : (s : List ℕ) (at w : ℕ) → length s ≤ 114 → w ≤ 17 → 8 * length s < at + w → field_in s at w ≡ Past
+unfolding field_in
+field_beyond s at w l n h = simp (le-leb (length s) 114 l, le-leb w 17 n, lt-leb (at + w) (8 * length s) h)
