@@ -10,9 +10,8 @@ use Rattle.keep.proofs.first_short.Goals as goal
 
 pub is_short-requires : goal.is_short-requires
 is_short-requires c =
-    let s = c in
     let v = c.loop-p in
-    s.requires.1 v.p (omega (arith, c.loop-p-test.true, s.requires.0))
+    c.requires.1 v.p (omega (arith, c.loop-p-test.true, c.requires.0))
 
 pub returns-then-is_short : goal.returns-then-is_short
 returns-then-is_short c =

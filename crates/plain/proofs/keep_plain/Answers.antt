@@ -15,9 +15,8 @@ sum_all-fuel-requires c = (c.requires.0.draw.few, refl)
 
 pub loop-fuel-init : goal.loop-fuel-init
 loop-fuel-init c =
-    let s = c in
-    let a = s.args in
-    let g = s.requires.0 in
+    let a = c.args in
+    let g = c.requires.0 in
     let h = c.sum_all-fuel.ensures in
     record {
       going = record {
@@ -36,20 +35,16 @@ loop-fuel-init c =
 
 pub pass-all-requires : goal.pass-all-requires
 pass-all-requires c =
-    let l = c in
-    let a = l in
-    (l.loop-fuel.invariant.going, a.requires.1)
+    (c.loop-fuel.invariant.going, c.requires.1)
 
 pub returns-then-all-count : goal.returns-then-all-count
 returns-then-all-count c =
-    let k = c in
     let g = c.pass-all.ensures in
-    (turn_idle k.loop-fuel.invariant k.loop-fuel-test.true g c.if-all-count.true, g.going.working.book.room)
+    (turn_idle c.loop-fuel.invariant c.loop-fuel-test.true g c.if-all-count.true, g.going.working.book.room)
 
 pub loop-fuel-preserved : goal.loop-fuel-preserved
 loop-fuel-preserved c =
-    let k = c in
-    turn_again k.loop-fuel.invariant k.loop-fuel-test.true c.pass-all.ensures c.if-all-count.false
+    turn_again c.loop-fuel.invariant c.loop-fuel-test.true c.pass-all.ensures c.if-all-count.false
 
 pub returns : goal.returns
 returns c = let t = c.loop-fuel.invariant in (turn_ends t c.loop-fuel-test.false, t.going.working.book.room)
