@@ -3,16 +3,15 @@ use Rattle.rules.proofs.Sums.{first_stays, first_here, first_not}
 use native.Mathlib.Omega.{arith}
 use native.Mathlib.Numerals.{add-one}
 use native.Mathlib.Nat.{le_antisymm}
-use Prim.Native.Nat.{suc, ◌-◌}
+use Prim.Native.Nat.{suc}
 use mathlib.Core.Path.{sym, ◌∙◌}
 use borrow.Author.Rules.{rules}
 use Rattle.keep.proofs.first_short.Goals as goal
 
 pub is_short-requires : goal.is_short-requires
 is_short-requires c =
-    let s = c in
     let v = c.loop-p in
-    s.requires.1 v.p (omega (arith, c.loop-p-test.true, s.requires.0))
+    c.requires.1 v.p (omega (arith, c.loop-p-test.true, c.requires.0))
 
 pub returns-then-is_short : goal.returns-then-is_short
 returns-then-is_short c =

@@ -1,7 +1,6 @@
 use mathlib.Core.Path.{refl, ap}
 use Prim.Native.Nat.{ℕ}
 use native.Mathlib.Omega.{arith}
-use borrow.Author.Tests.{not-true, not-false}
 use lib.ListN.{length-replicate}
 use Rattle.rules.specs.Keep.{keep_loop}
 use Rattle.rules.specs.Round.{drawn}
@@ -20,14 +19,13 @@ sum_all-fuel-requires c = (c.requires.draw.few, refl)
 
 pub loop-fuel-init : goal.loop-fuel-init
 loop-fuel-init c =
-    let s = c in
-    let a = s.args in
+    let a = c.args in
     let h = c.sum_all-fuel.ensures in
     record {
-      few = s.requires.few;
-      draw = s.requires.draw;
+      few = c.requires.few;
+      draw = c.requires.draw;
       working = record {
-        book = record { room = s.requires.room; few = s.requires.draw.few; holds = h.holds };
+        book = record { room = c.requires.room; few = c.requires.draw.few; holds = h.holds };
         numbers = c.number_all.ensures;
       };
       some = omega (arith, h.small);
@@ -49,27 +47,24 @@ returns-in_default c =
 
 pub keep_next-requires : goal.keep_next-requires
 keep_next-requires c =
-    let k = c in
-    let f = k.first_short-q in
-    turn_keeping k.loop-fuel.invariant f.result f.ensures _ k.in-At.is
+    let f = c.first_short-q in
+    turn_keeping c.loop-fuel.invariant f.result f.ensures _ c.in-At.is
 
 pub returns-then-not-keep_next : goal.returns-then-not-keep_next
 returns-then-not-keep_next c =
-    let k = c in
-    let f = k.first_short-q in
+    let f = c.first_short-q in
     let n = c.keep_next.ensures in
-    let e = turn_idle k.loop-fuel.invariant f.result f.ensures _ k.in-At.is n c.if-not-keep_next.true in
+    let e = turn_idle c.loop-fuel.invariant f.result f.ensures _ c.in-At.is n c.if-not-keep_next.true in
     (e, n.working.book.room)
 
 pub overflow_add-count : goal.overflow_add-count
-overflow_add-count c = let l = c in omega (arith, l.loop-fuel.invariant.some)
+overflow_add-count c = omega (arith, c.loop-fuel.invariant.some)
 
 pub loop-fuel-preserved : goal.loop-fuel-preserved
 loop-fuel-preserved c =
-    let k = c in
-    let f = k.first_short-q in
-    turn_again k.loop-fuel.invariant f.result f.ensures _ k.in-At.is c.keep_next.ensures
-    c.if-not-keep_next.false k.loop-fuel-test.true _ (omega arith)
+    let f = c.first_short-q in
+    turn_again c.loop-fuel.invariant f.result f.ensures _ c.in-At.is c.keep_next.ensures
+    c.if-not-keep_next.false c.loop-fuel-test.true _ (omega arith)
 
 pub returns : goal.returns
 returns c = let t = c.loop-fuel.invariant in (turn_out t c.loop-fuel-test.false, t.working.book.room)

@@ -1,5 +1,4 @@
 use mathlib.Core.Path.{subst}
-use Prim.Native.Nat.{◌-◌}
 use native.Mathlib.Omega.{arith}
 use Rattle.rules.specs.Accept.{place_at}
 use Rattle.keep.specs.Step.{Timed, Ranked}
@@ -26,11 +25,10 @@ loop-k-init c = (
 
 pub loop-k-preserved : goal.loop-k-preserved
 loop-k-preserved c =
-    let d = c in
-    let a = d.args in
-    let v = d.loop-k in
-    let i = d.loop-k-test.true in
-    let e = d.place_at-l.ensures in
+    let a = c.args in
+    let v = c.loop-k in
+    let i = c.loop-k-test.true in
+    let e = c.place_at-l.ensures in
     let t = c.turn_of in
     let w = places_in a.ps.now in (
       search rules,

@@ -1,5 +1,5 @@
 use mathlib.Core.Path.{◌≡◌, sym, ◌∙◌, ap, subst}
-use Prim.Native.Nat.{◌*◌, ◌-◌, ◌%◌}
+use Prim.Native.Nat.{◌*◌, ◌%◌}
 use native.Mathlib.Nat.{le_antisymm}
 use native.Mathlib.Numerals.{add-one}
 use native.Mathlib.Omega.{arith}
@@ -17,11 +17,10 @@ loop-k-init c =
 
 pub overflow_add-held : goal.overflow_add-held
 overflow_add-held c =
-    let v = c in
-    omega (arith, v.loop-k.invariant.1.0.small (v.loop-k.k % 8) (omega arith), c.held-h.ensures.1, v.loop-k.invariant.0, v.requires.0)
+    omega (arith, c.loop-k.invariant.1.0.small (c.loop-k.k % 8) (omega arith), c.held-h.ensures.1, c.loop-k.invariant.0, c.requires.0)
 
 pub overflow_add-left-in-loop-k : goal.overflow_add-left-in-loop-k
-overflow_add-left-in-loop-k c = let v = c in omega (arith, v.loop-k.invariant.1.1.1, v.loop-k.invariant.0, v.requires.0)
+overflow_add-left-in-loop-k c = omega (arith, c.loop-k.invariant.1.1.1, c.loop-k.invariant.0, c.requires.0)
 
 pub loop-k-preserved : goal.loop-k-preserved
 loop-k-preserved c =
@@ -40,11 +39,10 @@ loop-k-preserved c =
 pub returns : goal.returns
 returns c =
     let v = c.loop-k in
-    let s = c in
-    let ps = places_in s.args.ps.now in
-    let e : v.k ≡ s.args.bidders * 8 = le_antisymm v.invariant.0 c.loop-k-test.false in
+    let ps = places_in c.args.ps.now in
+    let e : v.k ≡ c.args.bidders * 8 = le_antisymm v.invariant.0 c.loop-k-test.false in
     record {
-      holds = sums_all held_of v.held ps v.k s.args.bidders e v.invariant.1.0;
+      holds = sums_all held_of v.held ps v.k c.args.bidders e v.invariant.1.0;
       every_left = v.invariant.1.1.0 ∙ ap (sum_up_to (λ j. left_of (place_at ps j))) e;
-      small = omega (arith, v.invariant.1.1.1, s.requires.0);
+      small = omega (arith, v.invariant.1.1.1, c.requires.0);
     }
