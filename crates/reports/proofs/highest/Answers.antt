@@ -2,7 +2,6 @@ use Rattle.rules.specs.Bid.{record_of, price_at, before_at}
 use native.Mathlib.Nat.{le_antisymm}
 use native.Mathlib.Numerals.{add-one}
 use mathlib.Core.Path.{ap, ◌∙◌}
-use Prim.Native.Nat.{◌-◌}
 use native.Mathlib.Omega.{arith}
 use Rattle.rules.specs.Units.{price_of}
 use Rattle.rules.specs.Report.{highest_in, highest_up_to}
