@@ -1,5 +1,5 @@
 use mathlib.Core.Path.{◌≡◌, sym, ◌∙◌, ap, subst}
-use Prim.Native.Nat.{◌*◌, ◌-◌, ◌%◌}
+use Prim.Native.Nat.{◌*◌, ◌%◌}
 use native.Mathlib.Nat.{le_antisymm}
 use native.Mathlib.Numerals.{add-one}
 use native.Mathlib.Omega.{arith}
@@ -53,14 +53,14 @@ loop-k-preserved c =
     let v = c.loop-k in
     let a = c.args in
     let ps = places_in a.ps.now in
-    let r = c.«record».ensures in
+    let r = c.record-r.ensures in
     let h = c.held-h.ensures in
     let x = c.kept-x.ensures in
     let e = x.0 ∙ ap kept_in r in (
       search rules,
       (
         sums_next held_of v.held ps v.k _ (h.0 ∙ ap held_in r) (omega arith) v.invariant.1.0,
-        (sums_next kept_of v.auto ps v.k _ e (omega arith) v.invariant.1.1.0, rw add-one (omega arith)),
+        (sums_next kept_of v.kept ps v.k _ e (omega arith) v.invariant.1.1.0, rw add-one (omega arith)),
       ),
     )
 
@@ -73,7 +73,7 @@ returns c =
     record {
       sums = record {
         holds = sums_all held_of v.held ps v.k s.args.bidders e v.invariant.1.0;
-        keeps = sums_all kept_of v.auto ps v.k s.args.bidders e v.invariant.1.1.0;
+        keeps = sums_all kept_of v.kept ps v.k s.args.bidders e v.invariant.1.1.0;
       };
       every_kept = v.invariant.1.1.1.0 ∙ ap (sum_up_to (λ j. kept_of (place_at ps j))) e;
       small = omega (arith, v.invariant.1.1.1.1, s.requires.few);
