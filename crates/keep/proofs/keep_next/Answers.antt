@@ -1,25 +1,20 @@
--- the bidder whose turn it is
+use mathlib.Core.Path.{◌≡◌}
+use mathlib.Core.List.{List}
+use Prim.Native.Nat.{ℕ, ◌<◌}
 use native.Mathlib.Omega.{arith}
-use Rattle.table.specs.Rows.{places_in}
+use Rattle.rules.specs.declared.Place.{Place}
+use Rattle.rules.specs.Round.{drawn}
+use Rattle.table.specs.declared.Next.{Next}
+use Rattle.keep.specs.Search.{next_up_to}
+use Rattle.keep.specs.Work.{Keeping}
 use Rattle.keep.proofs.Steps.{Step, step_idle, step_drawn, step_keeps, step_at, step_cancels, step_kept}
 use Rattle.keep.proofs.keep_next.Goals as goal
 
-abbrev step : (c : tie.After-bidder-at) → let a = c.before.before.before.before.before.before.args in
-    Step a.products a.bidders a.draw.now (places_in a.ps.now) a.held.now a.turns.now a.ranks.now a.p
-step c = record {
-  given = c.before.before.before.before.before.before.requires;
-  next = c.before.before.before.next-turn.result;
-  is_next = c.before.before.before.next-turn.ensures;
-  some = c.before.if1.false;
-  b = c.bidder-at.result;
-  is_drawn = c.bidder-at.ensures.0;
-  bidder = c.bidder-at.ensures.1;
-}
-
--- the increase lost, and where its bidder was found
-
-abbrev drawn : goal.After-lost-x → tie.After-bidder-at
-drawn c = c.before.before.before.before.before.before
+-- the turn taken, and the bidder whose it is
+abbrev step : {m n : ℕ} {draw : List ℕ} {ps : List Place} {held turns ranks : List ℕ} {p : ℕ}
+    → Keeping m n draw ps held turns ranks p → (s : Next) → s ≡ next_up_to turns (drawn draw) p n
+    → (s.turn ≡ 4294967297 → ⊥) → (b : ℕ) → b ≡ drawn draw s.at → b < n → Step m n draw ps held turns ranks p
+step g s f d b e l = record { given = g; next = s; is_next = f; some = d; b = b; is_drawn = e; bidder = l }
 
 pub returns-then-s-eq-NOTHING : goal.returns-then-s-eq-NOTHING
 returns-then-s-eq-NOTHING c = let n = c.next_turn-s in step_idle c.requires n.result n.ensures c.if-s-eq-NOTHING.true
@@ -31,18 +26,31 @@ bidder_at-b-requires c =
     (step_drawn g n.result n.ensures c.if-s-eq-NOTHING.false, g.draw)
 
 pub keep_at-requires : goal.keep_at-requires
-keep_at-requires c = step_keeps (step c)
+keep_at-requires c =
+    let n = c.next_turn-s in
+    let b = c.bidder_at-b in
+    step_keeps (step c.requires n.result n.ensures c.if-s-eq-NOTHING.false b.result b.ensures.0 b.ensures.1)
 
 pub overflow_add-b-2 : goal.overflow_add-b-2
-overflow_add-b-2 c = let d = c in omega (arith, step_at (step (drawn d)) d.lost-x.result d.lost-x.ensures)
+overflow_add-b-2 c =
+    let n = c.next_turn-s in
+    let b = c.bidder_at-b in
+    let x = c.lost-x in
+    let u = step c.requires n.result n.ensures c.if-s-eq-NOTHING.false b.result b.ensures.0 b.ensures.1 in
+    omega (arith, step_at u x.result x.ensures)
 
 pub cancel_at-requires : goal.cancel_at-requires
 cancel_at-requires c =
-    let d = c in
-    step_cancels (step (drawn d)) d.lost-x.result d.lost-x.ensures _ _ _ d.keep_at.ensures
+    let n = c.next_turn-s in
+    let b = c.bidder_at-b in
+    let x = c.lost-x in
+    let u = step c.requires n.result n.ensures c.if-s-eq-NOTHING.false b.result b.ensures.0 b.ensures.1 in
+    step_cancels u x.result x.ensures _ _ _ c.keep_at.ensures
 
 pub returns : goal.returns
 returns c =
-    let d = c in
-    step_kept (step (drawn d)) d.lost-x.result d.lost-x.ensures _ _ _ d.keep_at.ensures _ _ _
-    c.cancel_at.ensures
+    let n = c.next_turn-s in
+    let b = c.bidder_at-b in
+    let x = c.lost-x in
+    let u = step c.requires n.result n.ensures c.if-s-eq-NOTHING.false b.result b.ensures.0 b.ensures.1 in
+    step_kept u x.result x.ensures _ _ _ c.keep_at.ensures _ _ _ c.cancel_at.ensures

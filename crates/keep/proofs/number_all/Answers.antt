@@ -1,5 +1,4 @@
 use mathlib.Core.Path.{subst}
-use Prim.Native.Nat.{◌-◌}
 use native.Mathlib.Omega.{arith}
 use Rattle.rules.specs.Accept.{place_at}
 use Rattle.keep.specs.Step.{Timed, Ranked}
