@@ -8,16 +8,14 @@ use Rattle.outbid.proofs.deem_at.Goals as goal
 
 pub deem-x-requires : goal.deem-x-requires
 deem-x-requires c =
-    let s = c in
-    let f = (s.requires.1.each s.args.k).switches in
+    let f = (c.requires.1.each c.args.k).switches in
     rw c.place_at-l.ensures (omega arith)
 
 pub returns-then-tick-l : goal.returns-then-tick-l
 returns-then-tick-l c =
-    let d = c in
-    let l = d.place_at-l.ensures in
-    let a = d.args in
-    rw (← l, d.if-tick-l.true) (c.put.ensures ∙ ap (set (places_in a.ps.now) a.k) d.deem-x.ensures)
+    let l = c.place_at-l.ensures in
+    let a = c.args in
+    rw (← l, c.if-tick-l.true) (c.put.ensures ∙ ap (set (places_in a.ps.now) a.k) c.deem-x.ensures)
 
 pub returns-else-tick-l : goal.returns-else-tick-l
 returns-else-tick-l c =

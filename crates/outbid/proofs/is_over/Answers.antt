@@ -5,6 +5,5 @@ use Rattle.outbid.proofs.is_over.Goals as goal
 
 pub returns : goal.returns
 returns c =
-    let s = c in
-    let k : s.args.target ≤ 20000000 = omega arith in
-    rw (c.is_above-above.ensures, c.standing_of.ensures, less_back _ _ s.requires k)
+    let k : c.args.target ≤ 20000000 = omega arith in
+    rw (c.is_above-above.ensures, c.standing_of.ensures, less_back _ _ c.requires k)

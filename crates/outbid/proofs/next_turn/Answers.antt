@@ -1,5 +1,5 @@
 use mathlib.Core.Path.{refl, ◌∙◌, ap, subst}
-use Prim.Native.Nat.{◌+◌, ◌*◌, ◌-◌}
+use Prim.Native.Nat.{◌+◌, ◌*◌}
 use native.Mathlib.Nat.{le_antisymm}
 use native.Mathlib.Numerals.{add-one}
 use native.Mathlib.Omega.{arith}
@@ -23,12 +23,11 @@ bidder_at-b-requires c = (c.loop-i-test.true, c.requires.draw)
 
 pub loop-i-preserved : goal.loop-i-preserved
 loop-i-preserved c =
-    let d = c in
-    let v = d.loop-i in
-    let a = d.args in
-    let b = d.bidder_at-b.ensures.0 in
+    let v = c.loop-i in
+    let a = c.args in
+    let b = c.bidder_at-b.ensures.0 in
     let t = c.turn_of-turn in
-    let r = c.«record».ensures ∙ ap (λ b. (place_at (places_in a.ps.now) (b * 8 + a.p)).holds) b in
+    let r = c.record-r.ensures ∙ ap (λ b. (place_at (places_in a.ps.now) (b * 8 + a.p)).holds) b in
     let e = subst (Timed t.result) r t.ensures in (
       search rules,
       (

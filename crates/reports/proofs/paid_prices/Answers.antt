@@ -1,5 +1,4 @@
 use borrow.Author.Rules.{rules}
-use Prim.Native.Nat.{◌-◌}
 use native.Mathlib.Omega.{arith}
 use Rattle.rules.proofs.Fill.{none_filled, one_more, all_filled}
 use Rattle.reports.proofs.paid_prices.Goals as goal

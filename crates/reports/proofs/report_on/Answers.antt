@@ -4,11 +4,10 @@ use Rattle.reports.proofs.report_on.Goals as goal
 pub returns : goal.returns
 unfolding report_on
 returns c =
-    let d = c in
     rw (
-      d.free-free.ensures,
-      d.of-phase.ensures,
-      d.phase.ensures,
+      c.free-free.ensures,
+      c.of-phase.ensures,
+      c.phase.ensures,
       c.of-range.ensures,
       c.excess.ensures.0,
       c.own_records-records.ensures,
