@@ -7,7 +7,7 @@ returns c =
     let b = c in
     rw (
       c.two_bytes.ensures,
-      c.rows_of_lem.ensures,
+      c.rows_of-row.ensures,
       b.bidders_of-eligibility.ensures,
       b.products_of-product.ensures,
       b.number-priced.ensures.0,

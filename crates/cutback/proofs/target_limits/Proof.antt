@@ -1,9 +1,0 @@
-use borrow.Author.Rules.{rules}
-use Rattle.cutback.proofs.target_limits.Statement.{statement}
-use Rattle.cutback.proofs.target_limits.Tie as tie
-
-returns : tie.Need-returns
-returns c = rw (c.under.ensures, c.before.before.target.ensures)
-
-pub target-limits-spec : {M : Type 1} → statement M
-target-limits-spec = tie.close (tie.spec (λ c κs. search rules) (λ c. search rules) (λ c κs. search rules) returns)
