@@ -1,6 +1,6 @@
 -- Chains of tests as facts, and facts as chains of tests. Assumes nothing.
 use mathlib.Core.Path.{◌≡◌, refl, sym, ◌∙◌}
-use mathlib.Core.Bool.{Bool, true, false, not}
+use mathlib.Core.Bool.{Bool, true, false}
 use Prim.Native.Nat.{ℕ, ◌≤◌, ◌<◌}
 use lib.Dec.{leb, eqb}
 use borrow.Author.Tests.{eqb-true, ltb-true, leb-true, eqb-false, ltb-false, leb-false, lt-ltb, le-leb, eq-eqb, lt-leb, ne_eqb}
