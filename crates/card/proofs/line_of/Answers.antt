@@ -1,5 +1,0 @@
--- `line_of` meets its contract: of each field its value. Assumes nothing.
-use Rattle.card.proofs.line_of.Goals as goal
-
-pub returns : goal.returns
-returns c = cc
