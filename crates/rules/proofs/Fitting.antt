@@ -15,7 +15,7 @@ use Rattle.rules.specs.Answers.{closed, stopped}
 use Rattle.rules.specs.Settings.{setup, target_of, cap_of, start_of, initial_of, decrement_of}
 use Rattle.rules.specs.Lots.{total, count_of, lots_zero}
 use Rattle.rules.specs.Card.{no_line, lots_fit, line_fits, line_zero}
-use Rattle.rules.specs.Held.{going_in, denied_in, held_in, record_at, place, ticked, free_of}
+use Rattle.rules.specs.Held.{going_in, denied_in, held_in, record_at, place, free_of}
 use Rattle.rules.specs.Bid.{bid_in, record_of, price_at, before_at, mark_at, on_product, judged, has_filed, slot_of}
 use Rattle.rules.specs.Legal.{is_open, record_zero, zero_from}
 use Rattle.rules.specs.Layout.{stored, loaded}
@@ -23,7 +23,7 @@ use Rattle.rules.proofs.Sums.{sum_le}
 use Rattle.rules.proofs.Lists.{all_take, list_at}
 use Rattle.rules.proofs.Parts.{target_is, cap_is, start_is, initial_is}
 use Rattle.rules.proofs.Tests.{told, shown}
-use Rattle.rules.specs.Stands.{Long, Stands, Accepted}
+use Rattle.rules.specs.Stands.{Long, Stands}
 use Rattle.rules.proofs.Judged.{judged_take}
 use Rattle.rules.proofs.Priorities.{sum_const, priority_small}
 use Rattle.rules.proofs.LotLaws.{Most, exits_most, zero_none}

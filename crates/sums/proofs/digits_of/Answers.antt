@@ -1,4 +1,4 @@
-use Rattle.std.proofs.Common.{◌-◌, le_antisymm, add-one, rules}
+use Rattle.std.proofs.Common.{le_antisymm, add-one, rules}
 use Rattle.sums.specs.Sum.{digits_up_to}
 use Rattle.sums.proofs.digits_of.Goals as goal
 

@@ -1,4 +1,4 @@
-use Rattle.std.proofs.Common.{◌-◌, le_antisymm, add-one, rules}
+use Rattle.std.proofs.Common.{le_antisymm, add-one, rules}
 use Rattle.sums.specs.Sum.{length_up_to}
 use Rattle.sums.proofs.length_bytes.Goals as goal
 

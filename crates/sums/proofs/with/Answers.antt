@@ -1,4 +1,4 @@
-use Rattle.std.proofs.Common.{◌-◌, append-nil, take_all, rules}
+use Rattle.std.proofs.Common.{append-nil, take_all, rules}
 use Rattle.sums.proofs.Laws.{sum_of, step}
 use Rattle.sums.proofs.with.Goals as goal
 

@@ -1,4 +1,4 @@
-use Rattle.std.proofs.Common.{◌-◌, le_antisymm, add-one, rules}
+use Rattle.std.proofs.Common.{le_antisymm, add-one, rules}
 use Rattle.sums.specs.Block.{rounds_up_to}
 use Rattle.sums.proofs.block.rounds.Goals as goal
 

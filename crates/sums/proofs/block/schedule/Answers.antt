@@ -1,4 +1,4 @@
-use Rattle.std.proofs.Common.{◌-◌, le_antisymm, add-one, rules}
+use Rattle.std.proofs.Common.{le_antisymm, add-one, rules}
 use Rattle.sums.specs.Block.{schedule_up_to}
 use Rattle.sums.proofs.block.schedule.Goals as goal
 
