@@ -8,9 +8,7 @@ use lib.Signed.{mag, lt_z, non_neg, nat_abs-le}
 use mir.Syntax.{w32, w64}
 use mir.Val.{Fits, to_z, of_z}
 use mir.ValLaws.{to_z-of_z}
-use borrow.Author.Rules.{rules}
-use Rattle.store.proofs.reason.number.Statement.{statement}
-use Rattle.store.proofs.reason.number.Tie as tie
+use Rattle.store.proofs.reason.number.Goals as goal
 
 above : (z : ℤ) → lt_z (pos 0) z ≡ true → T (non_neg z)
 above (pos n) e = tt
@@ -22,8 +20,5 @@ above_fits z f e =
     let back = to_z-of_z w32 z (record { sfits = f }) in
     rw back (above z (rw back at e), record { fits = omega (arith, nat_abs-le z f) })
 
-cast-result : tie.Need-overflow-cast-result
-cast-result c = above_fits c.before.args.why c.before.ranges.why.sfits c.if1.true
-
-pub number-spec : {M : Type 1} → statement M
-number-spec = tie.close (tie.spec cast-result (λ c. search rules) (λ c. search rules))
+pub overflow_cast-result : goal.overflow_cast-result
+overflow_cast-result c = above_fits c.args.why c.ranges.why.sfits c.if-why-gt0.true
