@@ -17,7 +17,7 @@ fn put_number(out: &mut [u8; ANSWER], n: u32) -> usize {
 }
 
 // How many bidders are to file, or the length of the refusal.
-#[derive(Drop)]
+#[derive(Clone, Copy)]
 enum Asked {
     ToFile(u32),
     Said(usize),

@@ -66,7 +66,7 @@ none : (n : ℕ) → Bytes (replicate n 0)
 none n = record { small = λ i. let e = blank {A = ℕ} 0 n i in omega arith }
 
 more : {x : ℕ} {s : List ℕ} → x < 256 → Bytes s → Bytes (x ∷ s)
-more h B = record { small = λ i. elim i [ zero ↦ h | suc j ↦ B.small j ] }
+more {x} {s} h B = record { small = λ i. elim i as (λ j. get_or (x ∷ s) j 0 < 256) [ zero ↦ h | suc j ↦ B.small j ] }
 
 bytes0 : Bytes card_of0
 unfolding card_of0

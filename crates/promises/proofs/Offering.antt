@@ -30,7 +30,7 @@ use Rattle.laws.specs.OneCall.{StandsIn}
 use Rattle.laws.proofs.OneCall.{stood, open_stands_lem, open_loaded}
 use Rattle.rules.specs.Uses.{Call, after}
 use Rattle.promises.specs.Runs.{run, opened_by, Round, round_of, rounds, Cutback}
-use Rattle.promises.specs.Offered.{OnOffer, no_offer, offered_from, on_offer, in_rounds, given_up, withdrawn_in}
+use Rattle.promises.specs.Offered.{OnOffer, no_offer, offering, offered_from, on_offer, in_rounds, given_up, withdrawn_in}
 use Rattle.promises.specs.Awards.{Closed, award_on}
 use Rattle.promises.specs.Demands.{AwardOffered, AwardedOnce}
 use Rattle.promises.proofs.Steps.{Step, same, card, round, cut, step, after_stands, run_keeps, opened_stands, opened_settings, opened_terms, opened_keeps, in_use, bidding}
@@ -41,7 +41,7 @@ use Rattle.promises.proofs.Closing.{award_is, paid_is}
 
 offered_on : (o : OnOffer) (rs qs : List Round) (b p : ℕ) → offered_from o (rs ++ qs) b p ≡ offered_from (offered_from o rs b p) qs b p
 offered_on o [] qs b p = refl
-offered_on o (r ∷ rs) qs b p = offered_on _ rs qs b p
+offered_on o (r ∷ rs) qs b p = offered_on (offering r b p o) rs qs b p
 
 -- of a bidder and a product in use
 abbrev BackedBy : OnOffer → Auction → ℕ → ℕ → Type 0

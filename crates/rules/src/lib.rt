@@ -910,7 +910,7 @@ pub enum Answer {
     Refused(u8),
 }
 
-#[derive(Drop)]
+#[derive(Clone, Copy)]
 pub enum Count {
     ToFile(u32),
     Refused(u8),

@@ -259,12 +259,7 @@ fn is_closed_from(
 }
 
 // The number of the journal that was closed so, or 0.
-fn number_closed(
-    rt: &impl Files,
-    journal: &[u8],
-    state: &[u8; STATE],
-    copy: &[u8; STATE],
-) -> u64 {
+fn number_closed(rt: &impl Files, journal: &[u8], state: &[u8; STATE], copy: &[u8; STATE]) -> u64 {
     let mut n = 1;
     while n < 1000 {
         if is_closed_from(rt, journal, n, state, copy) {
@@ -276,12 +271,7 @@ fn number_closed(
 }
 
 // The journal that was closed by the return from a state goes on.
-fn bring_back(
-    rt: &impl Files,
-    journal: &[u8],
-    state: &[u8; STATE],
-    copy: &[u8; STATE],
-) -> bool {
+fn bring_back(rt: &impl Files, journal: &[u8], state: &[u8; STATE], copy: &[u8; STATE]) -> bool {
     let n = number_closed(rt, journal, state, copy);
     let mut name = io::buffer();
     let k = beside_numbered(journal, b".", n, &mut name);
@@ -353,13 +343,7 @@ fn write_fresh(
     sync_folder(rt, path)
 }
 
-fn write_after(
-    rt: &impl Files,
-    journal: &[u8],
-    end: i64,
-    lines: &[u8; ANSWER],
-    n: usize,
-) -> i32 {
+fn write_after(rt: &impl Files, journal: &[u8], end: i64, lines: &[u8; ANSWER], n: usize) -> i32 {
     let mut file = match open_update(rt, journal) {
         Ok(file) => file,
         Err(e) => return number_of(&e),
@@ -416,13 +400,7 @@ fn traced_for(
 }
 
 // Whether an undo puts back a state that this journal has, and the box is where the journal ends.
-fn is_known(
-    rt: &impl Files,
-    act: Act,
-    trail: Trail,
-    journal: &[u8],
-    work: &[u8; STATE],
-) -> bool {
+fn is_known(rt: &impl Files, act: Act, trail: Trail, journal: &[u8], work: &[u8; STATE]) -> bool {
     if let Act::Undo = act {
         if begins(act, trail) {
             return false;
@@ -655,9 +633,7 @@ fn save_held<R: Files<File = File> + Numbered>(
     if !is_done(ready) {
         return ready;
     }
-    let logged = log(
-        rt, path, journal, act, given, answer, n, state, work, seen,
-    );
+    let logged = log(rt, path, journal, act, given, answer, n, state, work, seen);
     let saved = logged.saved;
     if !is_done(saved) {
         return saved;
