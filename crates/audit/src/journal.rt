@@ -478,12 +478,7 @@ fn compare(
             }
         }
         if same(held, state) {
-            return say_end(
-                rt,
-                out,
-                played,
-                b"  the box is what the last line leaves\n",
-            );
+            return say_end(rt, out, played, b"  the box is what the last line leaves\n");
         }
         if same(held, prior) {
             return say_end(

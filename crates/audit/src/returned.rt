@@ -110,12 +110,7 @@ fn is_clean(state: &[u8; STATE]) -> bool {
     left_in(state, 0, STATE) == 0
 }
 
-fn tell<R: Files + Print>(
-    rt: &R,
-    path: &[u8],
-    state: &[u8; STATE],
-    out: &mut [u8; ANSWER],
-) -> u8 {
+fn tell<R: Files + Print>(rt: &R, path: &[u8], state: &[u8; STATE], out: &mut [u8; ANSWER]) -> u8 {
     let a = put_found(out, state);
     let b = put_beside(
         rt,

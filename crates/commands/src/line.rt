@@ -11,9 +11,7 @@ use names::{NAMES, Naming};
 use rules::{Count, Phase};
 use std::fs::File;
 use std::rt::Files;
-use store::{
-    Act, Kind, Numbered, Undo, copy_before, keep, number_on, put_reason, save_names,
-};
+use store::{Act, Kind, Numbered, Undo, copy_before, keep, number_on, put_reason, save_names};
 use text::{ANSWER, Cursor, control_at, put, put_named, word, wrong_number};
 use view::put_form;
 

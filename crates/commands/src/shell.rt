@@ -12,8 +12,8 @@ use rules::Phase;
 use std::io::Read;
 use store::{Kind, number_on};
 use text::{
-    ANSWER, Aside, Cursor, Input, join_lines, keep_rest, next_end, put, put_named, read_again, send,
-    skip_on, word,
+    ANSWER, Aside, Cursor, Input, join_lines, keep_rest, next_end, put, put_named, read_again,
+    send, skip_on, word,
 };
 
 // Room for a line of 2,048 bytes and its end.
@@ -395,17 +395,7 @@ fn respond(
         Reply::Other => {}
     }
     hold(line, held);
-    respond_to(
-        rt,
-        line,
-        manner.asks,
-        course,
-        kind,
-        path,
-        names,
-        state,
-        out,
-    )
+    respond_to(rt, line, manner.asks, course, kind, path, names, state, out)
 }
 
 // ---- The lines of the input
@@ -678,13 +668,7 @@ fn put_prompt(out: &mut [u8; ANSWER], kind: Kind, state: &[u8; STATE]) -> usize 
 }
 
 // To standard error, so that the answers alone are on standard output.
-fn prompt(
-    rt: &impl Aside,
-    asked: usize,
-    kind: Kind,
-    state: &[u8; STATE],
-    out: &mut [u8; ANSWER],
-) {
+fn prompt(rt: &impl Aside, asked: usize, kind: Kind, state: &[u8; STATE], out: &mut [u8; ANSWER]) {
     let n = if asked == 0 {
         put_prompt(out, kind, state)
     } else {
@@ -738,19 +722,7 @@ fn turned<R: Host, I: Read>(
     let n = got.unwrap_or(0);
     if n == 0 {
         return at_end(
-            rt,
-            buf,
-            end,
-            skipping,
-            failed,
-            held,
-            manner,
-            course,
-            kind,
-            path,
-            names,
-            state,
-            out,
+            rt, buf, end, skipping, failed, held, manner, course, kind, path, names, state, out,
         );
     }
     answer_read(

@@ -239,7 +239,10 @@ fn backwards() -> [u8; 8] {
 
 fn calculated_backwards(rt: &impl Print, start: [u8; STATE]) {
     let mut state = start;
-    told(rt, console::calculate_plain(&mut state, &draw(), no_overrides(), &backwards()));
+    told(
+        rt,
+        console::calculate_plain(&mut state, &draw(), no_overrides(), &backwards()),
+    );
 }
 
 fn counted(rt: &impl Print, state: [u8; STATE]) {

@@ -214,6 +214,7 @@ impl Limits {
     }
 
     // And at most this.
+    #[tactic(auto, using(std::proofs::lemmas::Bool::Decides::nat_tests))]
     pub fn under(self, most: u32) -> Limits
         ensures { result ≡ limits self.least (min self.most most) }
     {
@@ -322,6 +323,7 @@ impl Lot {
     }
 
     // One less, and the price is 0 where none is left.
+    #[tactic(auto, using(std::proofs::lemmas::Bool::Decides::nat_tests))]
     fn outbid(self) -> Lot
         ensures { result ≡ outbid_lot self }
     {
@@ -423,6 +425,7 @@ impl Lots {
     }
 
     // The first used lot: that with the lowest price.
+    #[tactic(auto, using(std::proofs::lemmas::Bool::Decides::nat_tests), unfolding(crate::specs::Lots::first_used))]
     pub fn first(self) -> usize
         ensures { result ≡ first_used self }
     {
@@ -446,6 +449,7 @@ impl Lots {
     }
 
     // The last used lot: that with the highest price.
+    #[tactic(auto, using(std::proofs::lemmas::Bool::Decides::nat_tests), unfolding(crate::specs::Lots::last_used))]
     pub fn last(self) -> usize
         ensures { result ≡ last_used self }
     {

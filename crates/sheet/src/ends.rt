@@ -252,7 +252,13 @@ fn put_stopped(out: &mut [u8; ANSWER], at: usize, s: &[u8; STATE]) -> usize {
     )
 }
 
-pub fn put_end(rt: &impl Print, out: &mut [u8; ANSWER], at: usize, names: &[u8; NAMES], s: &[u8; STATE]) -> usize {
+pub fn put_end(
+    rt: &impl Print,
+    out: &mut [u8; ANSWER],
+    at: usize,
+    names: &[u8; NAMES],
+    s: &[u8; STATE],
+) -> usize {
     let to = room(rt, out, at);
     match Phase::of(book::phase(s)) {
         Phase::Open => put_open(out, to, names, s),

@@ -205,8 +205,7 @@ fn tell_all<F: Read + Seek>(
             return paper::lost();
         }
         to = tell(
-            rt,
-            page, to, names, place, &prior, &state, first, places, rounds,
+            rt, page, to, names, place, &prior, &state, first, places, rounds,
         );
         place = turn.place;
         turns -= 1;
@@ -263,7 +262,16 @@ fn put_charts(
     }
     to = put(page, to, b"</section>\n");
     if MANY < rounds {
-        to = paper::put_brief(rt, page, to, names, book::products(last), rounds, prices, helds);
+        to = paper::put_brief(
+            rt,
+            page,
+            to,
+            names,
+            book::products(last),
+            rounds,
+            prices,
+            helds,
+        );
     }
     flush(rt, page, to)
 }
@@ -318,8 +326,12 @@ fn write_page<R: Print + Aside, F: Read + Seek>(
     let mut to = head::put_head(&mut page, 0, path, last, rounds, returned, played);
     to = head::put_settings(rt, &mut page, to, names, opened);
     to = flush(rt, &page, to);
-    to = put_charts(rt, &mut page, to, names, opened, last, rounds, prices, helds);
-    to = put_rounds(rt, file, &mut page, to, names, last, lines, places, rounds, out);
+    to = put_charts(
+        rt, &mut page, to, names, opened, last, rounds, prices, helds,
+    );
+    to = put_rounds(
+        rt, file, &mut page, to, names, last, lines, places, rounds, out,
+    );
     to = ends::put_end(rt, &mut page, to, names, last);
     to = head::put_foot(&mut page, to, played);
     to = flush(rt, &page, to);
@@ -332,12 +344,7 @@ fn write_page<R: Print + Aside, F: Read + Seek>(
 // ---- The box and its journal
 
 // The names belong to the auction that is in the box.
-fn names_of(
-    rt: &impl Files,
-    path: &[u8],
-    held: &[u8; STATE],
-    state: &[u8; STATE],
-) -> [u8; NAMES] {
+fn names_of(rt: &impl Files, path: &[u8], held: &[u8; STATE], state: &[u8; STATE]) -> [u8; NAMES] {
     let mut names = names::none();
     if is_same(held, state) {
         paper::read_names(rt, path, &mut names);
