@@ -161,6 +161,7 @@ pub struct Next {
 
 impl Next {
     // Of equals the earliest stays.
+    #[tactic(auto, using(std::proofs::lemmas::Bool::Decides::nat_tests))]
     pub fn sooner(self, i: usize, turn: u64) -> Next
         ensures { result ≡ sooner self i turn }
     {

@@ -15,14 +15,14 @@ returns-then-n-ne0 c = refuses_with _ _ _ Refused c.count_number-n.ensures c.if-
 
 pub overflow_sub-still : goal.overflow_sub-still
 overflow_sub-still c =
-    counted_few (loaded c.args.s.now) _ _ (omega (arith, c.bidders.ensures.0)) (omega (arith, c.filed.ensures))
+    counted_few (loaded c.args.s.now) _ _ (omega arith) (omega arith)
     (few _ (stood_by _ 3 open_number_of (omega arith) _ c.count_number-n.ensures c.if-n-ne0.false).0 (record { small = λ i. (c.type_inv.s i).fits }))
 
 pub returns : goal.returns
 unfolding count_call
 returns c =
     answers_with _ _ _ Refused _ c.count_number-n.ensures c.if-n-ne0.false
-    (ap ToFile (counted (loaded c.args.s.now) _ _ (omega (arith, c.bidders.ensures.0)) (omega (arith, c.filed.ensures))))
+    (ap ToFile (counted (loaded c.args.s.now) _ _ (omega arith) (omega arith)))
 
 pub bidders-requires : goal.bidders-requires
 bidders-requires c = (stood_by _ 3 open_number_of (omega arith) _ c.count_number-n.ensures c.if-n-ne0.false).0.long
