@@ -22,7 +22,7 @@ use Rattle.rules.specs.Held.{nothing, going_in, held_in, record_at, place, set_t
 use Rattle.rules.specs.Accept.{at, nowhere, place_at, column, held_of}
 use Rattle.rules.specs.Bid.{one_if, record_of, price_at}
 use Rattle.rules.specs.Price.{next_price}
-use Rattle.rules.specs.Round.{not_chosen, override_for, opens_at, price_next, mark_next, before_next, stops}
+use Rattle.rules.specs.Round.{not_chosen, override_for, opens_at, price_next, mark_next, before_next}
 use Rattle.rules.specs.Cutback.{given_for, numbers_fit, free_cut, set_to_caps, reduced, cut_back}
 use Rattle.rules.specs.Layout.{loaded}
 use Rattle.rules.proofs.Allowed.{leb_min}

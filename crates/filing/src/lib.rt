@@ -12,6 +12,7 @@ ghost use Rattle.filing.specs.Filing.{Files};
 use rules::{Card, Line, OPEN};
 
 // 6, 7, and 8 to 13 of a bid that was read.
+#[tactic(auto, using(std::proofs::lemmas::Bool::Decides::nat_tests))]
 fn bid_number(s: &[u8], bidder: u8, round: u16, lines: [Line; 8]) -> u8
     requires { Lent s.now }
     ensures { result ≡ bid_number (loaded s.now) (Bid bidder round) lines }

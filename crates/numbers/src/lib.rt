@@ -57,6 +57,7 @@ fn overrides_fit(overrides: [Chosen; 8]) -> bool
 }
 
 // Calculate: 1, 2, 3, 14, 19.
+#[tactic(auto, using(std::proofs::lemmas::Bool::Decides::nat_tests))]
 pub fn calculate_number(s: &[u8], draw: &[u8], overrides: [Chosen; 8]) -> u8
     ensures { result ≡ calculate_number s.now draw.now overrides }
 {
@@ -77,6 +78,7 @@ pub fn calculate_number(s: &[u8], draw: &[u8], overrides: [Chosen; 8]) -> u8
 }
 
 // Calculate with the plain engine: 1, 2, 3, 14, 19, 23. The order holds "each product once", as the draw each bidder.
+#[tactic(auto, using(std::proofs::lemmas::Bool::Decides::nat_tests))]
 pub fn plain_number(s: &[u8], draw: &[u8], overrides: [Chosen; 8], order: &[u8]) -> u8
     ensures { result ≡ plain_number s.now draw.now overrides order.now }
 {
@@ -108,6 +110,7 @@ pub fn cutback_number(s: &[u8], targets: [Tranches; 8], caps: [Tranches; 8]) -> 
 }
 
 // Report: 1, 2, 3 (issued), 6, 18.
+#[tactic(auto, using(std::proofs::lemmas::Bool::Decides::nat_tests))]
 pub fn report_number(s: &[u8], bidder: u8) -> u8
     ensures { result ≡ report_number s.now bidder }
 {
@@ -125,6 +128,7 @@ pub fn report_number(s: &[u8], bidder: u8) -> u8
 }
 
 // Result: 1, 2, 16.
+#[tactic(auto, using(std::proofs::lemmas::Bool::Decides::nat_tests))]
 pub fn result_number(s: &[u8]) -> u8
     ensures { result ≡ result_number s.now }
 {

@@ -23,6 +23,7 @@ fn copy_in(src: &[u8], dst: &mut [u8], at: usize) -> usize
 }
 
 // Puts a text at a place, and gives the place after it; where there is no room, the place.
+#[tactic(auto, using(std::proofs::lemmas::Bool::Decides::nat_tests))]
 pub fn put(out: &mut [u8; ANSWER], at: usize, w: &[u8]) -> usize
     ensures { (result ≡ (put_at out.old at w.now).next) × (out.new ≡ (put_at out.old at w.now).bytes) }
 {

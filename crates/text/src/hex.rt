@@ -19,6 +19,7 @@ pub enum Hex {
 }
 
 // The value of a digit, and 16 for any other byte.
+#[tactic(auto, using(std::proofs::lemmas::Bool::Decides::nat_tests), unfolding(crate::specs::Nibble::nibble_of))]
 pub fn nibble(b: u8) -> u8
     ensures { (result ≡ nibble_of b) × (result ≤ 16) }
 {

@@ -59,6 +59,7 @@ fn byte_back(buf: &[u8], full: usize, i: usize) -> u8
 }
 
 // How many bytes tell where a line ends that is too long, by its last two.
+#[tactic(auto, using(std::proofs::lemmas::Bool::Decides::nat_tests))]
 fn kept_count(second: u8, first: u8) -> usize
     ensures { result ≡ length (kept_of second first) }
 {

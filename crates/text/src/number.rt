@@ -22,6 +22,7 @@ pub enum Take {
 }
 
 // One byte more.
+#[tactic(auto, using(std::proofs::lemmas::Bool::Decides::nat_tests))]
 pub fn digit_after(n: Read, b: u8) -> Read
     ensures { result ≡ digit_after n b }
 {

@@ -13,7 +13,7 @@ use Rattle.cutback.proofs.Sums.{sum_grows}
 use Rattle.cutback.proofs.free_after.Goals as goal
 
 pub loop-p-init : goal.loop-p-init
-loop-p-init c = let e = c.free-free.ensures in (omega arith, (omega arith, omega arith))
+loop-p-init c = (omega arith, (omega arith, omega arith))
 
 pub overflow_add-sum : goal.overflow_add-sum
 overflow_add-sum c =

@@ -1,5 +1,4 @@
 use mathlib.Core.Path.{refl}
-use Prim.Native.Nat.{◌-◌}
 use native.Mathlib.Omega.{arith}
 use borrow.Author.Rules.{rules}
 use Rattle.rules.specs.Layout.{loaded}
@@ -10,7 +9,7 @@ use Rattle.cutback.proofs.lanes_of.Goals as goal
 pub loop-p-preserved : goal.loop-p-preserved
 loop-p-preserved c =
     let v = c.loop-p.invariant in
-    (one_more _ v.0 (omega arith) (cc), one_more _ v.1 (omega arith) (λ i. record { price = c.start-x.ensures.0 i }))
+    (one_more _ v.0 (omega arith) (cc), one_more _ v.1 (omega arith) (cc))
 
 pub returns : goal.returns
 returns c =

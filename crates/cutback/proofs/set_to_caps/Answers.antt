@@ -1,4 +1,3 @@
-use Prim.Native.Nat.{◌-◌}
 use native.Mathlib.Omega.{arith}
 use Rattle.rules.proofs.Fill.{none_filled, one_more, all_filled}
 use Rattle.table.proofs.Rows.{rows_long}

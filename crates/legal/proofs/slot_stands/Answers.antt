@@ -1,15 +1,13 @@
 use mathlib.Core.Path.{sym}
 use mathlib.Core.Bool.{◌&&◌, ◌||◌}
 use mathlib.Core.Path.{◌∙◌, ap, ap₂}
-use Prim.Native.Nat.{◌-◌}
 use borrow.Author.Rules.{rules}
-use borrow.Author.Tests.{not-false, not-true}
 use lib.Dec.{eqb, ltb}
 use Rattle.rules.specs.Bid.{judged}
 use Rattle.rules.specs.Card.{line_zero}
 use Rattle.rules.specs.Layout.{loaded}
 use Rattle.rules.proofs.Fill.{all_filled, none_filled, one_more}
-use Rattle.rules.proofs.Tests.{no, yes}
+use Rattle.rules.proofs.Tests.{yes}
 use Rattle.held.proofs.Passed.{all_passed, none_passed, one_passed}
 use Rattle.legal.proofs.Zero.{filed_zero, unfiled_zero}
 use Rattle.legal.proofs.slot_stands.Goals as goal

@@ -1,7 +1,7 @@
 use mathlib.Core.Path.{refl, sym, ◌∙◌}
 use borrow.Author.Tests.{eq-eqb, ne_eqb}
 use Rattle.rules.specs.Calls.{open_number_of}
-use Rattle.numbers.proofs.StateLaws.{Stood, standing, not_standing, said}
+use Rattle.numbers.proofs.StateLaws.{standing, not_standing, said}
 use Rattle.numbers.proofs.count_number.Goals as goal
 
 pub returns-then-n-ne0 : goal.returns-then-n-ne0

@@ -1,6 +1,4 @@
 use mathlib.Core.Path.{refl, sym}
-use mathlib.Core.Bool.{true}
-use Prim.Native.Nat.{◌-◌}
 use native.Mathlib.Omega.{arith}
 use Rattle.rules.specs.Count.{all_up_to}
 use Rattle.rules.proofs.All.{fails, goes_on_lem, passes}

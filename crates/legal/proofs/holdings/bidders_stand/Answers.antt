@@ -1,4 +1,3 @@
-use Prim.Native.Nat.{◌-◌}
 use Rattle.held.proofs.Passed.{all_passed, none_passed, one_passed}
 use Rattle.legal.proofs.holdings.bidders_stand.Goals as goal
 

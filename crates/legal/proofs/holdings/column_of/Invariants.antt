@@ -1,5 +1,4 @@
 use Prim.Native.Nat.{◌-◌, ◌≤◌}
-use Rattle.rules.specs.Held.{held}
 use Rattle.rules.specs.Layout.{loaded}
 use Rattle.held.proofs.Passed.{Passed}
 use Rattle.legal.proofs.Passing.{Part, stands_on}

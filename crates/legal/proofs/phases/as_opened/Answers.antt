@@ -1,6 +1,5 @@
 use mathlib.Core.Bool.{◌&&◌}
 use mathlib.Core.Path.{◌∙◌, ap, ap₂}
-use Prim.Native.Nat.{◌-◌}
 use lib.Dec.{eqb}
 use Rattle.rules.specs.Legal.{record_zero}
 use Rattle.held.proofs.Passed.{all_passed, none_passed, one_passed}

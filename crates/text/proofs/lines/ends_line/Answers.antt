@@ -1,4 +1,4 @@
 use Rattle.text.proofs.lines.ends_line.Goals as goal
 
 pub returns : goal.returns
-returns c = rw (c.is_held.ensures, c.is_end.ensures)
+returns c = cc
