@@ -1,7 +1,6 @@
 use Rattle.std.proofs.Common.{rules}
 use native.Mathlib.Omega.{arith}
 use Rattle.rules.specs.Calls.{calculate_call}
-use Rattle.round.specs.Ready.{Ready}
 use Rattle.console.proofs.Rounds.{ready, refused, done}
 use Rattle.console.proofs.calculate.Goals as goal
 

@@ -1,7 +1,6 @@
 use Rattle.std.proofs.Common.{rules}
 use native.Mathlib.Omega.{arith}
 use Rattle.rules.specs.Calls.{plain_call}
-use Rattle.round.specs.Ready.{ReadyFor}
 use Rattle.console.proofs.Rounds.{ready_for, refused, done}
 use Rattle.console.proofs.calculate_plain.Goals as goal
 

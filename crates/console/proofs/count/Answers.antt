@@ -3,7 +3,7 @@ use native.Mathlib.Omega.{arith}
 use Rattle.rules.specs.declared.Count.TheVariants.{ToFile, Refused}
 use Rattle.rules.specs.Layout.{loaded}
 use Rattle.rules.specs.Calls.{open_number_of, count_call}
-use Rattle.numbers.proofs.StateLaws.{Stood, stood_by}
+use Rattle.numbers.proofs.StateLaws.{stood_by}
 use Rattle.console.proofs.Answering.{refuses_with, answers_with}
 use Rattle.console.proofs.Counting.{counted_few, counted}
 use Rattle.console.proofs.Fitting.{few}

@@ -1,7 +1,6 @@
 use Rattle.std.proofs.Common.{rules}
 use native.Mathlib.Omega.{arith}
 use Rattle.rules.specs.Calls.{cut_number, cutback_call}
-use Rattle.cutback.specs.Cuttable.{Cutting}
 use Rattle.numbers.proofs.StateLaws.{stood_by}
 use Rattle.console.proofs.Answering.{refuses, does}
 use Rattle.console.proofs.Fitting.{cutting}

@@ -1,5 +1,5 @@
 use native.Mathlib.Omega.{arith}
-use Rattle.numbers.proofs.StateLaws.{Stood, standing, lent}
+use Rattle.numbers.proofs.StateLaws.{standing, lent}
 use Rattle.console.proofs.Filing.{state_refused, card_refused, card_filed}
 use Rattle.console.proofs.file.Goals as goal
 

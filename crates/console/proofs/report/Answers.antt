@@ -1,9 +1,8 @@
-use mathlib.Core.Path.{◌≡◌, ◌∙◌}
+use mathlib.Core.Path.{◌∙◌}
 use native.Mathlib.Omega.{arith}
 use Rattle.rules.specs.Report.{report_refused}
-use Rattle.rules.specs.Layout.{loaded}
 use Rattle.rules.specs.Calls.{bidder_number, report_call}
-use Rattle.numbers.proofs.StateLaws.{Stood, stood_by, lent}
+use Rattle.numbers.proofs.StateLaws.{stood_by, lent}
 use Rattle.console.proofs.Answering.{refuses_with, answers_with}
 use Rattle.console.proofs.Fitting.{bidder_in_use}
 use Rattle.console.proofs.report.Goals as goal

@@ -2,7 +2,7 @@ use mathlib.Core.Path.{◌∙◌}
 use native.Mathlib.Omega.{arith}
 use Rattle.rules.specs.Report.{result_refused}
 use Rattle.rules.specs.Calls.{closed_number, result_call}
-use Rattle.numbers.proofs.StateLaws.{Stood, stood_by, lent}
+use Rattle.numbers.proofs.StateLaws.{stood_by, lent}
 use Rattle.console.proofs.Answering.{refuses_with, answers_with}
 use Rattle.console.proofs.result.Goals as goal
 
