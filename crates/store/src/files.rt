@@ -117,7 +117,8 @@ fn written<F: Write + OpenFile>(file: &mut F, bytes: &[u8]) -> std::io::Result<(
     file.sync_all()
 }
 
-// Writes the bytes to the open file, brings them to its device and closes it: 0, or the system's number for what failed.
+// Writes the bytes to the open file and brings them to its device: 0, or the system's number for what failed. Then the file is closed; what the
+// system says of that alone is not told, since the bytes are there.
 pub fn write_synced<F: Write + OpenFile + Drop>(file: F, bytes: &[u8]) -> i32 {
     let mut to = file;
     status_of(written(&mut to, bytes))
