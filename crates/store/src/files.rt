@@ -56,6 +56,7 @@ fn copy_state(room: &[u8; ROOM], state: &mut [u8; STATE]) {
 }
 
 // A file of so many bytes is a state's, or has another length.
+#[tactic(auto, using(std::proofs::lemmas::Bool::Decides::nat_tests))]
 fn taken(n: usize, room: &[u8; ROOM], state: &mut [u8; STATE]) -> Loaded
     ensures { (result ≡ of_length n) × Kept result state.old state.new }
 {
