@@ -10,18 +10,17 @@ use Rattle.text.specs.declared.Cursor.{Cursor}
 use Rattle.text.specs.declared.number.Take.{Take}
 use Rattle.text.specs.declared.number.Take.TheVariants as take
 use Rattle.text.specs.Number.{take_at}
-use Rattle.rules.specs.declared.Chosen.{Chosen}
-use Rattle.rules.specs.Price.{is_given}
+use Rattle.rules.specs.Price.{Override, is_given}
 use Rattle.rules.specs.Round.{override_for}
 use Rattle.asked.specs.declared.overriding.Points.{Points}
 use Rattle.asked.specs.declared.overriding.Points.TheVariants as points
 use Rattle.asked.specs.Overrides.{points_at, chosen, overrides_from}
 
-pub at_limit : (s : List ℕ) (c : Cursor) (n : ℕ) (os z : List Chosen) → 9 ≤ n → overrides_from s c (9 - n) os ≡ z → os ≡ z
+pub at_limit : (s : List ℕ) (c : Cursor) (n : ℕ) (os z : List Override) → 9 ≤ n → overrides_from s c (9 - n) os ≡ z → os ≡ z
 unfolding overrides_from
 at_limit s c n os z h i = let f : 9 - n ≡ 0 = omega arith in rw f at i
 
-module _ (s : List ℕ) (c : Cursor) (n : ℕ) (os z : List Chosen) {t : Take} (h : n < 9) (i : overrides_from s c (9 - n) os ≡ z)
+module _ (s : List ℕ) (c : Cursor) (n : ℕ) (os z : List Override) {t : Take} (h : n < 9) (i : overrides_from s c (9 - n) os ≡ z)
     (e : t ≡ take_at s c.at) where
   pub at_large : (q : ℕ) → t ≡ take.TooLarge q → os ≡ z
   unfolding overrides_from

@@ -1,5 +1,7 @@
 -- What a bid is of each product: `T LOTS P`, or `T W X P` for one lot. Assumes nothing.
 use Rattle.std.specs.Prelude.{Bool, cond, List, ℕ, zero, suc, ◌+◌, length, set, replicate, ltb, eqb}
+use Rattle.std.specs.declared.result.Result.{Result}
+use Rattle.std.specs.declared.result.Result.TheVariants.{Ok, Err}
 use Rattle.text.specs.declared.Cursor.{Cursor}
 use Rattle.text.specs.declared.Span.{Span}
 use Rattle.text.specs.Words.{span_at}
@@ -10,67 +12,44 @@ use Rattle.rules.specs.Lots.{lot, no_lot, lots}
 use Rattle.rules.specs.Card.{line, no_line}
 use Rattle.asked.specs.Asked.{byte_of, pair_of}
 use Rattle.asked.specs.Typed.{by_take}
-use Rattle.asked.specs.Lots.{lots_in}
-use Rattle.asked.specs.declared.lots.Fault.{Fault}
+use Rattle.asked.specs.Lots.{wrong, and_then, lots_in}
 use Rattle.asked.specs.declared.lots.Fault.TheVariants as fault
-use Rattle.asked.specs.declared.lots.Withdrawn.{Withdrawn}
-use Rattle.asked.specs.declared.lots.Withdrawn.TheVariants as withdrawn
-use Rattle.asked.specs.declared.bidding.Next.{Next}
-use Rattle.asked.specs.declared.bidding.Next.TheVariants as next
-use Rattle.asked.specs.declared.bidding.Leaving.{Leaving}
-use Rattle.asked.specs.declared.bidding.Leaving.TheVariants as leaving
-use Rattle.asked.specs.declared.bidding.Group.{Group}
-use Rattle.asked.specs.declared.bidding.Group.TheVariants as group
+use Rattle.asked.specs.declared.lots.Wrong.{Wrong}
 
 -- the next word as a number
-unfoldable pub number_at : List ℕ → Cursor → Next
+unfoldable pub number_at : List ℕ → Cursor → Result (ℕ × Cursor) Wrong
 number_at s c =
-    by_take (take_at s c.at) next.Number (next.Wrong fault.Large) (next.Wrong fault.NotANumber) (next.Wrong fault.Short (length s))
-
-abbrev pub by_number : {A : Type 0} → Next → (ℕ → Cursor → A) → (Fault → ℕ → A) → A
-by_number (next.Number n c) number wrong = number n c
-by_number (next.Wrong f p) number wrong = wrong f p
+    by_take (take_at s c.at) (λ n after. Ok (n, after)) (wrong fault.Large) (wrong fault.NotANumber) (wrong fault.Short (length s))
 
 -- W tranches at the one exit price X, used or not
 abbrev pub first_lot : ℕ → ℕ → Lots
 first_lot n x = lots (lot (pair_of n) x) no_lot no_lot no_lot
 
-unfoldable pub exit_after : List ℕ → Cursor → ℕ → Leaving
-exit_after s c n = by_number (number_at s c) (λ x after. leaving.Given (first_lot n x) after) leaving.Wrong
+unfoldable pub exit_after : List ℕ → Cursor → ℕ → Result (Lots × Cursor) Wrong
+exit_after s c n = and_then (number_at s c) (λ x. Ok (first_lot n x.0, x.1))
 
-abbrev pub up_to : ℕ → Withdrawn → Leaving
-up_to e (withdrawn.Given l) = leaving.Given l (record { at = e })
-up_to e (withdrawn.Wrong f p) = leaving.Wrong f p
-
-abbrev pub lots_within : List ℕ → Span → Leaving
-lots_within s w = up_to w.to (lots_in s w.from w.to)
+abbrev pub lots_within : List ℕ → Span → Result (Lots × Cursor) Wrong
+lots_within s w = and_then (lots_in s w.from w.to) (λ l. Ok (l, record { at = w.to }))
 
 -- the next word as lots
-unfoldable pub lots_at : List ℕ → Cursor → Leaving
+unfoldable pub lots_at : List ℕ → Cursor → Result (Lots × Cursor) Wrong
 lots_at s c = lots_within s (span_at s c.at)
 
 -- lots; where the next word is a number, one lot with the number after it
-unfoldable pub leaving_at : List ℕ → Cursor → Leaving
+unfoldable pub leaving_at : List ℕ → Cursor → Result (Lots × Cursor) Wrong
 leaving_at s c =
-    by_take (take_at s c.at) (λ n after. exit_after s after n) (leaving.Wrong fault.Large) (λ p. lots_at s c)
-    (leaving.Wrong fault.Short (length s))
-
-abbrev pub by_leaving : {A : Type 0} → Leaving → (Lots → Cursor → A) → (Fault → ℕ → A) → A
-by_leaving (leaving.Given l c) given wrong = given l c
-by_leaving (leaving.Wrong f p) given wrong = wrong f p
+    by_take (take_at s c.at) (λ n after. exit_after s after n) (wrong fault.Large) (λ p. lots_at s c) (wrong fault.Short (length s))
 
 -- a product's line, from its words
-unfoldable pub group_at : List ℕ → Cursor → Group
+unfoldable pub group_at : List ℕ → Cursor → Result (Line × Cursor) Wrong
 group_at s c =
-    by_number (number_at s c)
-    (λ t second. by_leaving (leaving_at s second)
-    (λ l third. by_number (number_at s third) (λ k after. group.Given (line (pair_of t) l (byte_of k)) after) group.Wrong)
-    group.Wrong)
-    group.Wrong
+    and_then (number_at s c)
+    (λ t. and_then (leaving_at s t.1)
+    (λ l. and_then (number_at s l.1) (λ k. Ok (line (pair_of t.0) l.0 (byte_of k.0), k.1))))
 
-abbrev pub by_group : {A : Type 0} → Group → (Line → Cursor → A) → A → A
-by_group (group.Given l c) given wrong = given l c
-by_group (group.Wrong f p) given wrong = wrong
+abbrev pub by_group : {A : Type 0} → Result (Line × Cursor) Wrong → (Line → Cursor → A) → A → A
+by_group (Ok g) given other = given g.0 g.1
+by_group (Err e) given other = other
 
 -- how many products a bid has, and the line of each
 pub record Grouped : Type 0 where

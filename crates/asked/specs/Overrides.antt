@@ -1,11 +1,9 @@
 -- The overrides that stand after a draw, one pair after the other. Assumes nothing.
-use Rattle.std.specs.Prelude.{cond, List, ℕ, zero, suc, set, ltb}
+use Rattle.std.specs.Prelude.{cond, List, ℕ, zero, suc, set, ltb, Some}
 use Rattle.text.specs.declared.Cursor.{Cursor}
 use Rattle.text.specs.Words.{span_at}
 use Rattle.text.specs.Number.{take_at}
-use Rattle.rules.specs.declared.Chosen.{Chosen}
-use Rattle.rules.specs.declared.Override.TheVariants as override
-use Rattle.rules.specs.Price.{is_given}
+use Rattle.rules.specs.Price.{Override, is_given}
 use Rattle.rules.specs.Round.{override_for}
 use Rattle.rules.specs.Units.{points as basis_points}
 use Rattle.asked.specs.Asked.{pair_of}
@@ -27,11 +25,11 @@ by_points (points.Given v next) given other = given v next
 by_points (points.NotANumber p) given other = other
 by_points points.End given other = other
 
-abbrev pub chosen : ℕ → Chosen
-chosen v = record { decrement = override.Points (basis_points v) }
+abbrev pub chosen : ℕ → Override
+chosen v = Some (basis_points v)
 
 -- pairs of a product, which has none yet, and its decrement, `left` of them at most
-unfoldable pub overrides_from : List ℕ → Cursor → ℕ → List Chosen → List Chosen
+unfoldable pub overrides_from : List ℕ → Cursor → ℕ → List Override → List Override
 overrides_from s c zero os = os
 overrides_from s c (suc left) os =
     by_take (take_at s c.at)

@@ -4,14 +4,14 @@ use Rattle.text.specs.declared.Cursor.{Cursor}
 use Rattle.text.specs.declared.number.Take.{Take}
 use Rattle.text.specs.declared.number.Take.TheVariants as take
 use Rattle.text.specs.Number.{take_at}
-use Rattle.asked.specs.declared.numbers.List as list
-use Rattle.asked.specs.declared.numbers.List.TheVariants.{Found, TooLarge}
+use Rattle.std.specs.declared.result.Result.{Result}
+use Rattle.std.specs.declared.result.Result.TheVariants.{Ok, Err}
 
 pub record Typed : Type 0 where
-  pub found : list.List
+  pub found : Result (ℕ × Cursor) ℕ
   pub numbers : List ℕ
 
-abbrev pub typed : list.List → List ℕ → Typed
+abbrev pub typed : Result (ℕ × Cursor) ℕ → List ℕ → Typed
 typed f ns = record { found = f; numbers = ns }
 
 -- by what stands at a place: a number and the place after it; one too large; another word; nothing
@@ -23,13 +23,13 @@ by_take take.End number large other end = end
 
 -- n numbers are in the array, and at most `left` more are put after them
 unfoldable pub typed_from : List ℕ → Cursor → ℕ → ℕ → List ℕ → Typed
-typed_from s c n zero out = typed (Found n c) out
+typed_from s c n zero out = typed (Ok (n, c)) out
 typed_from s c n (suc left) out =
     by_take (take_at s c.at)
     (λ v next. typed_from s next (n + 1) left (set out n v))
-    (λ p. typed (TooLarge p) out)
-    (λ p. typed (Found n (record { at = p })) out)
-    (typed (Found n c) out)
+    (λ p. typed (Err p) out)
+    (λ p. typed (Ok (n, record { at = p })) out)
+    (typed (Ok (n, c)) out)
 
 abbrev pub limit_of : ℕ → ℕ
 limit_of most = cond (ltb most 40) most 40

@@ -2,36 +2,23 @@
 ghost use Rattle.std.specs.Prelude.{◌≡◌, ◌≤◌};
 ghost use Rattle.asked.specs.Groups.{number_at, first_lot, exit_after, lots_at, leaving_at, group_at, most_of, groups_at};
 
-use crate::lots::{Fault, Withdrawn, lots_in};
+use crate::lots::{Fault, Wrong, lots_in};
 use crate::numbers::{Numbers, ends, one_byte, too_large, two_bytes, unless};
 use rules::{Line, Lot, Lots, Tranches};
 use text::{ANSWER, Cursor, Hex, Take, take_hex, take_number, word, wrong, wrong_number};
 
 // ---- The words of one product
 
-// A number, and the place after it; or what is wrong, and where.
-#[derive(Clone, Copy)]
-pub enum Next {
-    Number(u32, Cursor),
-    Wrong(Fault, usize),
-}
-
-fn number_at(line: &[u8], c: Cursor) -> Next
+// A number, and the place after it.
+fn number_at(line: &[u8], c: Cursor) -> Result<(u32, Cursor), Wrong>
     ensures { result ≡ number_at line.now c }
 {
     match take_number(line, c) {
-        Take::Number(n, next) => Next::Number(n, next),
-        Take::TooLarge(p) => Next::Wrong(Fault::Large, p),
-        Take::NotANumber(p) => Next::Wrong(Fault::NotANumber, p),
-        Take::End => Next::Wrong(Fault::Short, line.len()),
+        Take::Number(n, next) => Ok((n, next)),
+        Take::TooLarge(p) => Err(Wrong(Fault::Large, p)),
+        Take::NotANumber(p) => Err(Wrong(Fault::NotANumber, p)),
+        Take::End => Err(Wrong(Fault::Short, line.len())),
     }
-}
-
-// What is withdrawn, and the place after it.
-#[derive(Clone, Copy)]
-pub enum Leaving {
-    Given(Lots, Cursor),
-    Wrong(Fault, usize),
 }
 
 fn first_lot(n: u32, exit: u32) -> Lots
@@ -49,67 +36,47 @@ fn first_lot(n: u32, exit: u32) -> Lots
 }
 
 // The exit price of one lot of n.
-fn exit_after(line: &[u8], c: Cursor, n: u32) -> Leaving
+fn exit_after(line: &[u8], c: Cursor, n: u32) -> Result<(Lots, Cursor), Wrong>
     ensures { result ≡ exit_after line.now c n }
 {
-    match number_at(line, c) {
-        Next::Number(exit, next) => Leaving::Given(first_lot(n, exit), next),
-        Next::Wrong(f, p) => Leaving::Wrong(f, p),
-    }
+    let (exit, next) = number_at(line, c)?;
+    Ok((first_lot(n, exit), next))
 }
 
-fn lots_at(line: &[u8], c: Cursor) -> Leaving
+fn lots_at(line: &[u8], c: Cursor) -> Result<(Lots, Cursor), Wrong>
     ensures { result ≡ lots_at line.now c }
 {
     let w = word(line, c);
-    let a = w.from;
-    let e = w.to;
-    match lots_in(line, a, e) {
-        Withdrawn::Given(l) => Leaving::Given(l, Cursor { at: e }),
-        Withdrawn::Wrong(f, p) => Leaving::Wrong(f, p),
-    }
+    let l = lots_in(line, w.from, w.to)?;
+    Ok((l, Cursor { at: w.to }))
 }
 
-// LOTS, or W X: a number where lots belong is the count of one lot, and its exit price stands after it.
-fn leaving_at(line: &[u8], c: Cursor) -> Leaving
+// What is withdrawn, and the place after it. LOTS, or W X: a number where lots belong is the count of one lot, and its exit price stands
+// after it.
+fn leaving_at(line: &[u8], c: Cursor) -> Result<(Lots, Cursor), Wrong>
     ensures { result ≡ leaving_at line.now c }
 {
     match take_number(line, c) {
         Take::Number(n, next) => exit_after(line, next, n),
-        Take::TooLarge(p) => Leaving::Wrong(Fault::Large, p),
+        Take::TooLarge(p) => Err(Wrong(Fault::Large, p)),
         Take::NotANumber(_) => lots_at(line, c),
-        Take::End => Leaving::Wrong(Fault::Short, line.len()),
+        Take::End => Err(Wrong(Fault::Short, line.len())),
     }
 }
 
-// A product's line, and the place after its words.
-#[derive(Clone, Copy)]
-pub enum Group {
-    Given(Line, Cursor),
-    Wrong(Fault, usize),
-}
-
-// T LOTS P, or T W X P: tranches, what is withdrawn, priority.
-fn group_at(line: &[u8], c: Cursor) -> Group
+// A product's line, and the place after its words. T LOTS P, or T W X P: tranches, what is withdrawn, priority.
+fn group_at(line: &[u8], c: Cursor) -> Result<(Line, Cursor), Wrong>
     ensures { result ≡ group_at line.now c }
 {
-    match number_at(line, c) {
-        Next::Number(t, second) => match leaving_at(line, second) {
-            Leaving::Given(withdrawn, third) => match number_at(line, third) {
-                Next::Number(k, next) => {
-                    let l = Line {
-                        tranches: Tranches(two_bytes(t)),
-                        withdrawn,
-                        priority: one_byte(k),
-                    };
-                    Group::Given(l, next)
-                }
-                Next::Wrong(f, p) => Group::Wrong(f, p),
-            },
-            Leaving::Wrong(f, p) => Group::Wrong(f, p),
-        },
-        Next::Wrong(f, p) => Group::Wrong(f, p),
-    }
+    let (t, second) = number_at(line, c)?;
+    let (withdrawn, third) = leaving_at(line, second)?;
+    let (k, next) = number_at(line, third)?;
+    let l = Line {
+        tranches: Tranches(two_bytes(t)),
+        withdrawn,
+        priority: one_byte(k),
+    };
+    Ok((l, next))
 }
 
 // ---- The words of all products
@@ -148,42 +115,44 @@ pub struct Bid {
 fn most_of(most: usize) -> usize
     ensures { (result ≡ most_of most) × (result ≤ 8) }
 {
-    if most < 8 {
-        return most;
-    }
-    8
+    most.min(8)
 }
 
 // The words of `most` products at most. Lines that were not given are empty, as the array was made.
 fn take_groups(line: &[u8], c: Cursor, most: usize, out: &mut [u8; ANSWER]) -> Bid
     ensures { (result.count ≡ (groups_at line.now c most).count) × (result.lines ≡ (groups_at line.now c most).lines) }
 {
-    let none = Line::none();
-    let mut lines = [none; 8];
+    let mut lines = [Line::none(); 8];
     let top = most_of(most);
-    let mut said: usize = 0;
     let mut at = c;
-    let mut n: usize = 0;
-    while n < top {
+    for n in 0..top {
         let w = word(line, at);
         if w.from == w.to {
-            break;
+            return Bid {
+                said: 0,
+                count: n,
+                next: at,
+                lines,
+            };
         }
         match group_at(line, at) {
-            Group::Given(l, next) => {
+            Ok((l, next)) => {
                 lines[n] = l;
                 at = next;
-                n += 1;
             }
-            Group::Wrong(f, p) => {
-                said = put_fault(f, p, out);
-                break;
+            Err(Wrong(f, p)) => {
+                return Bid {
+                    said: put_fault(f, p, out),
+                    count: n,
+                    next: at,
+                    lines,
+                };
             }
         }
     }
     Bid {
-        said,
-        count: n,
+        said: 0,
+        count: top,
         next: at,
         lines,
     }

@@ -5,6 +5,7 @@ ghost use Rattle.asked.specs.Typed.{typed_at};
 
 use crate::numbers::{Numbers, all_numbers, limit, other_count, two_bytes};
 use rules::Tranches;
+use std::array;
 use text::{ANSWER, Cursor, wrong};
 
 #[derive(Clone, Copy)]
@@ -17,18 +18,8 @@ pub struct Revised {
 pub fn revised_of(numbers: [u32; 40]) -> Revised
     ensures { result ≡ revised_asked numbers }
 {
-    let none = Tranches(0);
-    let mut targets = [none; 8];
-    let mut caps = [none; 8];
-    let mut i: usize = 0;
-    while i < 8 {
-        let k = i * 2;
-        let target = Tranches(two_bytes(numbers[k]));
-        let cap = Tranches(two_bytes(numbers[k + 1]));
-        targets[i] = target;
-        caps[i] = cap;
-        i += 1;
-    }
+    let targets = array::from_fn(|i| Tranches(two_bytes(numbers[i * 2])));
+    let caps = array::from_fn(|i| Tranches(two_bytes(numbers[i * 2 + 1])));
     Revised { targets, caps }
 }
 
@@ -37,17 +28,13 @@ pub fn pairs(line: &[u8], c: Cursor, numbers: &mut [u32; 40], out: &mut [u8; ANS
     ensures { numbers.new ≡ (typed_at line.now c 16 numbers.old).numbers }
 {
     match all_numbers(line, c, 16, numbers, out) {
-        Numbers::Found(n) => {
-            if n % 2 == 0 {
-                return Numbers::Found(n / 2);
-            }
-            Numbers::Said(wrong(
-                out,
-                b"a product has a revised target and a revised cap; a number is missing",
-                line.len(),
-            ))
-        }
-        Numbers::Said(k) => Numbers::Said(k),
+        Numbers::Found(n) if n % 2 == 0 => Numbers::Found(n / 2),
+        Numbers::Found(_) => Numbers::Said(wrong(
+            out,
+            b"a product has a revised target and a revised cap; a number is missing",
+            line.len(),
+        )),
+        said => said,
     }
 }
 

@@ -4,45 +4,41 @@ ghost use Rattle.rules.specs.Count.{list_of};
 ghost use Rattle.asked.specs.Asked.{byte_of, pair_of, drawn_at};
 ghost use Rattle.asked.specs.Typed.{limit_of, typed_after, typed_at};
 
+use std::array;
 use text::{ANSWER, Cursor, Take, take_number, word, wrong, wrong_number};
-
-// How many numbers stand one after the other, and the place after them; or where one stands that is too large.
-#[derive(Clone, Copy)]
-pub enum List {
-    Found(u8, Cursor),
-    TooLarge(usize),
-}
 
 // As many as the array has places for.
 pub fn limit(most: usize) -> u8
     ensures { (result ≡ limit_of most) × (result ≤ 40) }
 {
-    if most < 40 {
-        return most as u8;
-    }
-    40
+    most.min(40) as u8
 }
 
-// Numbers up to the first word that is none, put after the `n` that are there; with those `most` of them at most.
-pub fn take_numbers(line: &[u8], c: Cursor, n: u8, most: usize, numbers: &mut [u32; 40]) -> List
+// Numbers up to the first word that is none, put after the `n` that are there; with those `most` of them at most. How many stand there
+// then, and the place after them; or where one stands that is too large.
+pub fn take_numbers(
+    line: &[u8],
+    c: Cursor,
+    n: u8,
+    most: usize,
+    numbers: &mut [u32; 40],
+) -> Result<(u8, Cursor), usize>
     ensures { (result ≡ (typed_after line.now c n most numbers.old).found) × (numbers.new ≡ (typed_after line.now c n most numbers.old).numbers) }
 {
     let top = limit(most);
     let mut at = c;
-    let mut k = n;
-    while k < top {
+    for k in n..top {
         match take_number(line, at) {
             Take::Number(v, next) => {
                 numbers[k as usize] = v;
                 at = next;
-                k += 1;
             }
-            Take::TooLarge(p) => return List::TooLarge(p),
-            Take::NotANumber(p) => return List::Found(k, Cursor { at: p }),
-            Take::End => return List::Found(k, at),
+            Take::TooLarge(p) => return Err(p),
+            Take::NotANumber(p) => return Ok((k, Cursor { at: p })),
+            Take::End => return Ok((k, at)),
         }
     }
-    List::Found(k, at)
+    Ok((n.max(top), at))
 }
 
 pub fn too_large(at: usize, out: &mut [u8; ANSWER]) -> usize {
@@ -68,12 +64,10 @@ pub fn one_number(line: &[u8], c: Cursor, out: &mut [u8; ANSWER]) -> One {
 // 0 where nothing is left of a line; otherwise the length of the error, which says `what` of it.
 fn left(line: &[u8], c: Cursor, what: &[u8], out: &mut [u8; ANSWER]) -> usize {
     let w = word(line, c);
-    let a = w.from;
-    let e = w.to;
-    if a == e {
+    if w.from == w.to {
         return 0;
     }
-    wrong(out, what, a)
+    wrong(out, what, w.from)
 }
 
 pub fn ends(line: &[u8], c: Cursor, out: &mut [u8; ANSWER]) -> usize {
@@ -113,11 +107,11 @@ pub fn all_numbers(
     ensures { numbers.new ≡ (typed_at line.now c most numbers.old).numbers }
 {
     match take_numbers(line, c, 0, most, numbers) {
-        List::Found(found, next) => {
+        Ok((found, next)) => {
             let n = found as usize;
             unless(rest(line, next, n, most, out), n)
         }
-        List::TooLarge(p) => Numbers::Said(too_large(p, out)),
+        Err(p) => Numbers::Said(too_large(p, out)),
     }
 }
 
@@ -133,8 +127,8 @@ pub fn other_count(
 ) -> usize {
     let mut numbers = [0u32; 40];
     let at = match take_numbers(line, c, 0, most, &mut numbers) {
-        List::Found(_, next) => word(line, next).from,
-        List::TooLarge(p) => p,
+        Ok((_, next)) => word(line, next).from,
+        Err(p) => p,
     };
     wrong_number(out, has, products as u64, b" products", at)
 }
@@ -144,30 +138,18 @@ pub fn other_count(
 pub fn one_byte(n: u32) -> u8
     ensures { result ≡ byte_of n }
 {
-    if n < 256 {
-        return n as u8;
-    }
-    255
+    u8::try_from(n).unwrap_or(u8::MAX)
 }
 
 pub fn two_bytes(n: u32) -> u16
     ensures { result ≡ pair_of n }
 {
-    if n < 65536 {
-        return n as u16;
-    }
-    65535
+    u16::try_from(n).unwrap_or(u16::MAX)
 }
 
 // A draw order.
 pub fn draw_of(numbers: [u32; 40]) -> [u8; 40]
     ensures { result ≡ list_of (drawn_at numbers) 40 }
 {
-    let mut draw = [0u8; 40];
-    let mut i = 0;
-    while i < 40 {
-        draw[i] = one_byte(numbers[i]);
-        i += 1;
-    }
-    draw
+    array::from_fn(|i| one_byte(numbers[i]))
 }

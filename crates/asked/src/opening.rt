@@ -3,9 +3,10 @@ ghost use Rattle.std.specs.Prelude.{◌≡◌, ◌<◌};
 ghost use Rattle.rules.specs.Count.{list_of};
 ghost use Rattle.asked.specs.Asked.{bidder_asked, product_at, row_at, settings_asked};
 
-use crate::numbers::{List, One, ends, one_number, take_numbers, too_large, two_bytes};
+use crate::numbers::{One, ends, one_number, take_numbers, too_large, two_bytes};
 use check::same;
 use rules::{BasisPoints, Price, Product, Row, Settings, Tranches, Unit};
+use std::array;
 use text::{ANSWER, Cursor, Take, take_number, word, wrong};
 
 // The settings, and 0 where they were given; otherwise the length of the error that is in the answer.
@@ -30,63 +31,32 @@ pub struct Sizes {
 fn bidders_of(numbers: [u32; 40]) -> [Tranches; 32]
     ensures { result ≡ list_of (bidder_asked numbers) 32 }
 {
-    let none = Tranches(0);
-    let mut list = [none; 32];
-    let mut i: usize = 0;
-    while i < 32 {
-        let v = Tranches(two_bytes(numbers[i]));
-        list[i] = v;
-        i += 1;
-    }
-    list
+    array::from_fn(|i| Tranches(two_bytes(numbers[i])))
 }
 
 fn products_of(priced: u8, numbers: [u32; 40]) -> [Product; 8]
     ensures { result ≡ list_of (product_at priced numbers) 8 }
 {
-    let free = Price::of(priced, 0);
-    let none = Product {
-        target: Tranches(0),
-        cap: Tranches(0),
-        start: free,
-    };
-    let mut list = [none; 8];
-    let mut i: usize = 0;
-    while i < 8 {
+    array::from_fn(|i| {
         let k = i * 3;
-        let start = Price::of(priced, numbers[k + 2]);
-        let target = two_bytes(numbers[k]);
-        let cap = two_bytes(numbers[k + 1]);
-        let v = Product {
-            target: Tranches(target),
-            cap: Tranches(cap),
-            start,
-        };
-        list[i] = v;
-        i += 1;
-    }
-    list
+        Product {
+            target: Tranches(two_bytes(numbers[k])),
+            cap: Tranches(two_bytes(numbers[k + 1])),
+            start: Price::of(priced, numbers[k + 2]),
+        }
+    })
 }
 
 fn rows_of(numbers: [u32; 40]) -> [Row; 8]
     ensures { result ≡ list_of (row_at numbers) 8 }
 {
-    let none = Row {
-        percent: 0,
-        decrement: BasisPoints(0),
-    };
-    let mut list = [none; 8];
-    let mut i: usize = 0;
-    while i < 8 {
+    array::from_fn(|i| {
         let k = i * 2;
-        let v = Row {
+        Row {
             percent: two_bytes(numbers[k]),
             decrement: BasisPoints(two_bytes(numbers[k + 1])),
-        };
-        list[i] = v;
-        i += 1;
-    }
-    list
+        }
+    })
 }
 
 // Three numbers a product: target, cap, starting price; one a bidder: eligibility; two a row: percentage, decrement. Those that were
@@ -116,10 +86,7 @@ fn settings_of(sizes: Sizes, products: [u32; 40], bidders: [u32; 40], rows: [u32
 
 // Whether a byte begins a word that was meant as a number.
 fn numeral(b: u8) -> bool {
-    match b {
-        b'0'..=b'9' | b'.' | b',' | b'-' | b'+' | b'$' => true,
-        _ => false,
-    }
+    matches!(b, b'0'..=b'9' | b'.' | b',' | b'-' | b'+' | b'$')
 }
 
 // Whether the next word is no number, though meant as one.
@@ -136,32 +103,18 @@ fn meant(line: &[u8], c: Cursor) -> bool {
     }
 }
 
-// How many groups of numbers stand after a key word, and the place after them; `said` is the length of the error where something is
-// wrong, otherwise 0.
-#[derive(Clone, Copy)]
-struct Group {
-    said: usize,
-    count: u8,
-    next: Cursor,
-}
-
-// `what` is wrong with the next word, unless that was meant as a number.
-fn refused(line: &[u8], c: Cursor, what: &[u8], out: &mut [u8; ANSWER]) -> Group {
+// `what` is wrong with the next word, unless that was meant as a number: the length of the error.
+fn refused(line: &[u8], c: Cursor, what: &[u8], out: &mut [u8; ANSWER]) -> usize {
     let at = word(line, c).from;
-    let said = if meant(line, c) {
-        wrong(out, b"not a number here", at)
-    } else {
-        wrong(out, what, at)
-    };
-    Group {
-        said,
-        count: 0,
-        next: c,
+    if meant(line, c) {
+        return wrong(out, b"not a number here", at);
     }
+    wrong(out, what, at)
 }
 
 // A key word and groups of `each` numbers after it, one at least and `most` numbers at most; the key word may stand before further
-// groups too. `instead` is said where another word stands, `missing` where a group is not whole.
+// groups too. `instead` is said where another word stands, `missing` where a group is not whole. How many groups stand there, and the
+// place after them; or the length of the error.
 fn listed(
     line: &[u8],
     c: Cursor,
@@ -172,7 +125,7 @@ fn listed(
     missing: &[u8],
     numbers: &mut [u32; 40],
     out: &mut [u8; ANSWER],
-) -> Group
+) -> Result<(u8, Cursor), usize>
     requires { 0 < each }
 {
     let mut at = c;
@@ -185,48 +138,51 @@ fn listed(
             break;
         }
         match take_numbers(line, Cursor { at: e }, n, most as usize, numbers) {
-            List::Found(k, next) => {
-                if n < k {
-                    if k % each == 0 {
-                        n = k;
-                        at = next;
-                        continue;
-                    }
+            Ok((k, next)) => {
+                if n < k && k % each == 0 {
+                    n = k;
+                    at = next;
+                    continue;
                 }
-                return refused(line, next, missing, out);
+                return Err(refused(line, next, missing, out));
             }
-            List::TooLarge(p) => {
-                return Group {
-                    said: too_large(p, out),
-                    count: 0,
-                    next: at,
-                };
-            }
+            Err(p) => return Err(too_large(p, out)),
         }
     }
     if n == 0 {
-        return refused(line, at, instead, out);
+        return Err(refused(line, at, instead, out));
     }
-    Group {
-        said: 0,
-        count: n / each,
-        next: at,
-    }
+    Ok((n / each, at))
 }
 
-fn products(line: &[u8], c: Cursor, numbers: &mut [u32; 40], out: &mut [u8; ANSWER]) -> Group {
+fn products(
+    line: &[u8],
+    c: Cursor,
+    numbers: &mut [u32; 40],
+    out: &mut [u8; ANSWER],
+) -> Result<(u8, Cursor), usize> {
     let instead = b"the word product belongs here";
     let missing = b"a product has a target, a cap and a starting price; a number is missing";
     listed(line, c, b"product", instead, 3, 24, missing, numbers, out)
 }
 
-fn bidders(line: &[u8], c: Cursor, numbers: &mut [u32; 40], out: &mut [u8; ANSWER]) -> Group {
+fn bidders(
+    line: &[u8],
+    c: Cursor,
+    numbers: &mut [u32; 40],
+    out: &mut [u8; ANSWER],
+) -> Result<(u8, Cursor), usize> {
     let instead = b"the word bidder belongs here, after 1 to 8 products";
     let missing = b"a bidder has an initial eligibility; a number is missing";
     listed(line, c, b"bidder", instead, 1, 32, missing, numbers, out)
 }
 
-fn rows(line: &[u8], c: Cursor, numbers: &mut [u32; 40], out: &mut [u8; ANSWER]) -> Group {
+fn rows(
+    line: &[u8],
+    c: Cursor,
+    numbers: &mut [u32; 40],
+    out: &mut [u8; ANSWER],
+) -> Result<(u8, Cursor), usize> {
     let instead = b"the word row belongs here, after 1 to 32 bidders";
     let missing = b"a row has a percentage and a decrement; a number is missing";
     listed(line, c, b"row", instead, 2, 16, missing, numbers, out)
@@ -246,62 +202,63 @@ fn nothing(said: usize) -> Opening {
     Opening { said, settings }
 }
 
-// The groups, after the unit and the statewide cap.
+// The groups, after the unit and the statewide cap; or the length of the error.
 fn after_cap(
     line: &[u8],
     c: Cursor,
     unit: Unit,
     statewide: u32,
     out: &mut [u8; ANSWER],
-) -> Opening {
+) -> Result<Settings, usize> {
     let mut p = [0u32; 40];
     let mut b = [0u32; 40];
     let mut r = [0u32; 40];
-    let product = products(line, c, &mut p, out);
-    if product.said != 0 {
-        return nothing(product.said);
-    }
-    let bidder = bidders(line, product.next, &mut b, out);
-    if bidder.said != 0 {
-        return nothing(bidder.said);
-    }
-    let row = rows(line, bidder.next, &mut r, out);
-    if row.said != 0 {
-        return nothing(row.said);
-    }
-    let said = ends(line, row.next, out);
+    let (products, next) = products(line, c, &mut p, out)?;
+    let (bidders, next) = bidders(line, next, &mut b, out)?;
+    let (rows, next) = rows(line, next, &mut r, out)?;
+    let said = ends(line, next, out);
     if said != 0 {
-        return nothing(said);
+        return Err(said);
     }
     let sizes = Sizes {
         unit,
         statewide,
-        products: product.count,
-        bidders: bidder.count,
-        rows: row.count,
+        products,
+        bidders,
+        rows,
     };
-    let settings = settings_of(sizes, p, b, r);
-    Opening { said, settings }
+    Ok(settings_of(sizes, p, b, r))
 }
 
-fn after_unit(line: &[u8], c: Cursor, unit: Unit, out: &mut [u8; ANSWER]) -> Opening {
+fn after_unit(
+    line: &[u8],
+    c: Cursor,
+    unit: Unit,
+    out: &mut [u8; ANSWER],
+) -> Result<Settings, usize> {
     match one_number(line, c, out) {
         One::Number(statewide, next) => after_cap(line, next, unit, statewide, out),
-        One::Said(said) => nothing(said),
+        One::Said(said) => Err(said),
     }
+}
+
+fn after_word(line: &[u8], c: Cursor, out: &mut [u8; ANSWER]) -> Result<Settings, usize> {
+    let w = word(line, c);
+    let unit = &line[w.from..w.to];
+    let next = Cursor { at: w.to };
+    if same(unit, b"kwh") {
+        return after_unit(line, next, Unit::Kwh, out);
+    }
+    if same(unit, b"mwday") {
+        return after_unit(line, next, Unit::MwDay, out);
+    }
+    Err(wrong(out, b"the unit is kwh or mwday", w.from))
 }
 
 // The settings of `open`, after its word.
 pub fn settings(line: &[u8], c: Cursor, out: &mut [u8; ANSWER]) -> Opening {
-    let w = word(line, c);
-    let a = w.from;
-    let e = w.to;
-    let next = Cursor { at: e };
-    if same(&line[a..e], b"kwh") {
-        return after_unit(line, next, Unit::Kwh, out);
+    match after_word(line, c, out) {
+        Ok(settings) => Opening { said: 0, settings },
+        Err(said) => nothing(said),
     }
-    if same(&line[a..e], b"mwday") {
-        return after_unit(line, next, Unit::MwDay, out);
-    }
-    nothing(wrong(out, b"the unit is kwh or mwday", a))
 }

@@ -4,11 +4,9 @@ ghost use Rattle.rules.specs.Round.{not_chosen};
 ghost use Rattle.asked.specs.Typed.{typed_at};
 ghost use Rattle.asked.specs.Overrides.{points_at, overrides_from};
 
-use crate::numbers::{
-    List, Numbers, all_numbers, rest, take_numbers, too_large, two_bytes, unless,
-};
+use crate::numbers::{Numbers, all_numbers, rest, take_numbers, too_large, two_bytes, unless};
 use check::same;
-use rules::{BasisPoints, Chosen, Override};
+use rules::BasisPoints;
 use text::{ANSWER, Cursor, Take, take_number, word, wrong};
 
 // What stands where a decrement belongs.
@@ -52,17 +50,14 @@ fn no_product(at: usize, out: &mut [u8; ANSWER]) -> usize {
 pub struct Drawn {
     pub said: usize,
     pub count: usize,
-    pub overrides: [Chosen; 8],
+    pub overrides: [Option<BasisPoints>; 8],
     pub ordered: usize,
 }
 
-fn none_chosen() -> [Chosen; 8]
+fn none_chosen() -> [Option<BasisPoints>; 8]
     ensures { result ≡ replicate 8 not_chosen }
 {
-    let none = Chosen {
-        decrement: Override::None,
-    };
-    [none; 8]
+    [None; 8]
 }
 
 // ---- The order of the products
@@ -70,9 +65,7 @@ fn none_chosen() -> [Chosen; 8]
 // The next word begins an order.
 fn is_order(line: &[u8], c: Cursor) -> bool {
     let w = word(line, c);
-    let a = w.from;
-    let e = w.to;
-    same(&line[a..e], b"order")
+    same(&line[w.from..w.to], b"order")
 }
 
 // The products up to the end of a line, one at least, as a draw's bidders are taken; the word before them stands at `key`.
@@ -86,17 +79,12 @@ fn order(
     ensures { products.new ≡ (typed_at line.now c 40 products.old).numbers }
 {
     match all_numbers(line, c, 40, products, out) {
-        Numbers::Found(n) => {
-            if n == 0 {
-                return Numbers::Said(wrong(
-                    out,
-                    b"an order has every product once; a number is missing",
-                    key,
-                ));
-            }
-            Numbers::Found(n)
-        }
-        Numbers::Said(n) => Numbers::Said(n),
+        Numbers::Found(0) => Numbers::Said(wrong(
+            out,
+            b"an order has every product once; a number is missing",
+            key,
+        )),
+        numbers => numbers,
     }
 }
 
@@ -121,33 +109,26 @@ fn ended(
     c: Cursor,
     said: usize,
     count: usize,
-    overrides: [Chosen; 8],
+    overrides: [Option<BasisPoints>; 8],
     products: &mut [u32; 40],
     out: &mut [u8; ANSWER],
 ) -> Drawn
     ensures { result.overrides ≡ overrides }
 {
-    if said != 0 {
-        return Drawn {
-            said,
-            count,
-            overrides,
-            ordered: 0,
-        };
-    }
-    match at_end(line, c, count, products, out) {
-        Numbers::Found(ordered) => Drawn {
-            said,
-            count,
-            overrides,
-            ordered,
-        },
-        Numbers::Said(said) => Drawn {
-            said,
-            count,
-            overrides,
-            ordered: 0,
-        },
+    let end = if said == 0 {
+        at_end(line, c, count, products, out)
+    } else {
+        Numbers::Said(said)
+    };
+    let (said, ordered) = match end {
+        Numbers::Found(ordered) => (0, ordered),
+        Numbers::Said(said) => (said, 0),
+    };
+    Drawn {
+        said,
+        count,
+        overrides,
+        ordered,
     }
 }
 
@@ -173,7 +154,7 @@ fn no_pair(line: &[u8], q: usize, n: usize, key: usize, out: &mut [u8; ANSWER]) 
 #[derive(Clone, Copy)]
 pub struct Pairs {
     said: usize,
-    overrides: [Chosen; 8],
+    overrides: [Option<BasisPoints>; 8],
     next: Cursor,
 }
 
@@ -185,8 +166,7 @@ fn overrides(line: &[u8], c: Cursor, key: usize, out: &mut [u8; ANSWER]) -> Pair
     let mut overrides = none_chosen();
     let mut said: usize = 0;
     let mut at = c;
-    let mut n: usize = 0;
-    while n < 9 {
+    for n in 0..9 {
         match take_number(line, at) {
             Take::Number(p, next) => {
                 let first = word(line, at).from;
@@ -195,18 +175,15 @@ fn overrides(line: &[u8], c: Cursor, key: usize, out: &mut [u8; ANSWER]) -> Pair
                     break;
                 }
                 let k = p as usize;
-                let had = overrides[k];
-                let earlier = had.decrement;
-                if earlier.is_given() {
+                let earlier = overrides[k];
+                if earlier.is_some() {
                     said = wrong(out, b"a product has one override", first);
                     break;
                 }
                 match take_points(line, next) {
                     Points::Given(points, after) => {
-                        let by = Override::Points(BasisPoints(points));
-                        overrides[k] = Chosen { decrement: by };
+                        overrides[k] = Some(BasisPoints(points));
                         at = after;
-                        n += 1;
                     }
                     Points::NotANumber(q) => {
                         said = no_number(line, q, first, out);
@@ -267,10 +244,8 @@ fn after_draw(
     out: &mut [u8; ANSWER],
 ) -> Drawn {
     let w = word(line, c);
-    let a = w.from;
-    let e = w.to;
-    if same(&line[a..e], b"override") {
-        return overridden(line, Cursor { at: e }, a, count, products, out);
+    if same(&line[w.from..w.to], b"override") {
+        return overridden(line, Cursor { at: w.to }, w.from, count, products, out);
     }
     ended(line, c, 0, count, none_chosen(), products, out)
 }
@@ -286,8 +261,8 @@ pub fn draw(
     ensures { numbers.new ≡ (typed_at line.now c 40 numbers.old).numbers }
 {
     match take_numbers(line, c, 0, 40, numbers) {
-        List::Found(n, next) => after_draw(line, next, n as usize, products, out),
-        List::TooLarge(p) => Drawn {
+        Ok((n, next)) => after_draw(line, next, n as usize, products, out),
+        Err(p) => Drawn {
             said: too_large(p, out),
             count: 0,
             overrides: none_chosen(),

@@ -1,8 +1,6 @@
 // `--check BOX [JOURNAL]`: the calls of a journal are made again from an issued box; every answer and every sum has to be the journal's,
 // and the box what they leave. Nothing is changed.
-ghost use Rattle.std.specs.Prelude.{◌≤◌, length};
-
-use crate::found::{Found, find, say};
+use crate::found::{Found, find, say, say_missing, say_wrong};
 use crate::{FINE, NOT_OK, UNUSABLE};
 use calls::{Made, make};
 use check::same;
@@ -32,47 +30,9 @@ pub enum Fault {
 // The text begins after the sum and a space.
 const TEXT: usize = SUM + 1;
 
-// The place of the first colon of the text, or the line's length: no answer has one.
-fn colon(line: &[u8]) -> usize
-    ensures { result ≤ length line.now }
-{
-    let mut i = TEXT;
-    while i < line.len() {
-        if line[i] == b':' {
-            return i;
-        }
-        i += 1;
-    }
-    line.len()
-}
-
-fn copy_state(from: &[u8; STATE], to: &mut [u8; STATE]) {
-    *to = *from;
-}
-
 // Whether the first line of the answer is the one that the journal has.
-fn is_said(answer: &[u8], n: usize, said: &[u8]) -> bool {
-    let k = said.len();
-    if answer.len() <= k {
-        return false;
-    }
-    if n <= k {
-        return false;
-    }
-    if answer[k] != b'\n' {
-        return false;
-    }
-    same(&answer[0..k], said)
-}
-
-fn is_kept_before(act: Act) -> bool {
-    match act {
-        Act::Calculation => true,
-        Act::Return => true,
-        Act::Plain => false,
-        Act::Opening => false,
-        Act::Undo => false,
-    }
+fn is_said(answer: &[u8], said: &[u8]) -> bool {
+    answer.starts_with(said) && matches!(answer.get(said.len()), Some(b'\n'))
 }
 
 // A call made again. `prior` is the state before it.
@@ -83,7 +43,7 @@ fn play_call(
     prior: &[u8; STATE],
     before: &mut [u8; STATE],
     out: &mut [u8; ANSWER],
-) -> Fault {
+) -> Result<(), Fault> {
     let span = word(given, Cursor { at: 0 });
     let a = span.from;
     let e = span.to;
@@ -96,16 +56,16 @@ fn play_call(
         out,
     ) {
         Made::Done(act, n) => {
-            if is_kept_before(act) {
-                copy_state(prior, before);
+            if matches!(act, Act::Calculation | Act::Return) {
+                *before = *prior;
             }
-            if is_said(out, n, said) {
-                return Fault::None;
+            if is_said(&out[..n.min(ANSWER)], said) {
+                return Ok(());
             }
-            Fault::OtherAnswer
+            Err(Fault::OtherAnswer)
         }
-        Made::Said(n) => Fault::Refused(n),
-        Made::Other => Fault::NotACall,
+        Made::Said(n) => Err(Fault::Refused(n)),
+        Made::Other => Err(Fault::NotACall),
     }
 }
 
@@ -117,18 +77,18 @@ fn play_text(
     prior: &mut [u8; STATE],
     before: &mut [u8; STATE],
     out: &mut [u8; ANSWER],
-) -> Fault {
+) -> Result<(), Fault> {
     if same(said, b"found") {
-        return Fault::Begun;
+        return Err(Fault::Begun);
     }
     if same(said, b"void") {
-        copy_state(prior, state);
-        return Fault::None;
+        *state = *prior;
+        return Ok(());
     }
-    copy_state(state, prior);
+    *prior = *state;
     if same(given, b"undo") {
-        copy_state(before, state);
-        return Fault::None;
+        *state = *before;
+        return Ok(());
     }
     play_call(said, given, state, prior, before, out)
 }
@@ -140,29 +100,25 @@ fn play_line(
     prior: &mut [u8; STATE],
     before: &mut [u8; STATE],
     out: &mut [u8; ANSWER],
-) -> Fault {
-    let k = colon(line);
-    if k < TEXT {
-        return Fault::NotALine;
+) -> Result<(), Fault> {
+    let text = line.get(TEXT..).ok_or(Fault::NotALine)?;
+    // no answer has a colon
+    let k = text.iter().position(|b| *b == b':').ok_or(Fault::NotALine)?;
+    if text.len() - k < 3 {
+        return Err(Fault::NotALine);
     }
-    if line.len() - k < 3 {
-        return Fault::NotALine;
-    }
-    let fault = play_text(
-        &line[TEXT..k],
-        &line[k + 2..line.len() - 1],
+    play_text(
+        &text[..k],
+        &text[k + 2..text.len() - 1],
         state,
         prior,
         before,
         out,
-    );
-    if let Fault::None = fault {
-        if store::fits(line, 0, line.len(), sum, state) {
-            return Fault::None;
-        }
-        return Fault::OtherSum;
+    )?;
+    if store::fits(line, 0, line.len(), sum, state) {
+        return Ok(());
     }
-    fault
+    Err(Fault::OtherSum)
 }
 
 // ---- All lines
@@ -190,20 +146,6 @@ pub fn begun() -> Played {
     }
 }
 
-// The length of the first line with its end, or 0 where there is none.
-fn line_length(bytes: &[u8]) -> usize
-    ensures { result ≤ length bytes.now }
-{
-    let mut i = 0;
-    while i < bytes.len() {
-        if bytes[i] == b'\n' {
-            return i + 1;
-        }
-        i += 1;
-    }
-    0
-}
-
 // What was read from the place of the next line on: it is played, and the place after it found.
 #[derive(Clone, Copy)]
 pub struct Turn {
@@ -223,8 +165,9 @@ fn after_line<F: Seek>(
     before: &mut [u8; STATE],
     out: &mut [u8; ANSWER],
 ) -> Turn {
-    let sum = played.sum;
-    let fault = play_line(line, &sum, state, prior, before, out);
+    let fault = play_line(line, &played.sum, state, prior, before, out)
+        .err()
+        .unwrap_or(Fault::None);
     let lines = std::num::wrapping_add_u64(played.lines, 1);
     let mut fitting = played.fitting;
     if same(state, held) {
@@ -236,10 +179,6 @@ fn after_line<F: Seek>(
         Ok(at) => at.cast_signed(),
         Err(_) => return faulty_at(played, Fault::Unread),
     };
-    let mut ended = true;
-    if let Fault::None = fault {
-        ended = false;
-    }
     Turn {
         played: Played {
             lines,
@@ -248,16 +187,14 @@ fn after_line<F: Seek>(
             sum: next,
             torn: false,
         },
-        ended,
+        ended: !matches!(fault, Fault::None),
         place: after,
     }
 }
 
 fn ended_at(played: Played, torn: bool) -> Turn {
-    let mut at = played;
-    at.torn = torn;
     Turn {
-        played: at,
+        played: Played { torn, ..played },
         ended: true,
         place: 0,
     }
@@ -265,14 +202,12 @@ fn ended_at(played: Played, torn: bool) -> Turn {
 
 // The next line cannot be played.
 fn faulty_at(played: Played, fault: Fault) -> Turn {
-    let sum = played.sum;
     Turn {
         played: Played {
             lines: std::num::wrapping_add_u64(played.lines, 1),
-            fitting: played.fitting,
             fault,
-            sum,
             torn: false,
+            ..played
         },
         ended: true,
         place: 0,
@@ -294,17 +229,16 @@ fn play_first<F: Seek>(
     before: &mut [u8; STATE],
     out: &mut [u8; ANSWER],
 ) -> Turn {
-    let k = line_length(bytes);
-    if k == 0 {
+    let Some(k) = bytes.iter().position(|b| *b == b'\n') else {
         if LONGEST <= bytes.len() {
             return faulty_at(played, Fault::NotALine);
         }
         return ended_at(played, bytes.len() != 0);
-    }
+    };
     after_line(
         file,
         place,
-        &bytes[0..k],
+        &bytes[..k + 1],
         played,
         held,
         state,
@@ -353,15 +287,13 @@ fn play_all<F: Read + Seek>(
     let mut before = [0u8; STATE];
     let mut place = 0;
     let mut played = begun();
-    let mut turns = u64::MAX;
-    while turns > 0 {
+    for _ in 0..u64::MAX {
         let turn = play_next(file, place, played, held, state, prior, &mut before, out);
         played = turn.played;
         if turn.ended {
             return played;
         }
         place = turn.place;
-        turns -= 1;
     }
     played
 }
@@ -381,7 +313,7 @@ pub fn put_fault(told: &mut [u8; ANSWER], at: usize, fault: Fault, out: &[u8]) -
         Fault::NotACall => put(told, at, b"what was given is no call\n"),
         Fault::Refused(n) => {
             let a = put(told, at, b"the call is not accepted: ");
-            put_first(told, a, out, n)
+            put(told, a, &out[..n.min(out.len())])
         }
         Fault::OtherAnswer => put(told, at, b"the answer is another\n"),
         Fault::OtherSum => put(
@@ -392,19 +324,11 @@ pub fn put_fault(told: &mut [u8; ANSWER], at: usize, fault: Fault, out: &[u8]) -
     }
 }
 
-fn put_first(told: &mut [u8; ANSWER], at: usize, bytes: &[u8], n: usize) -> usize {
-    if n <= bytes.len() {
-        return put(told, at, &bytes[0..n]);
-    }
-    at
-}
-
 fn say_fault(rt: &impl Print, played: Played, out: &[u8; ANSWER]) -> u8 {
     let mut told = io::large_buffer();
     let a = put_named(&mut told, 0, b"error line ", played.lines);
     let b = put(&mut told, a, b": ");
-    let fault = played.fault;
-    let n = put_fault(&mut told, b, fault, out);
+    let n = put_fault(&mut told, b, played.fault, out);
     send(rt, &told, n);
     NOT_OK
 }
@@ -416,8 +340,7 @@ fn put_lines(out: &mut [u8; ANSWER], played: Played) -> usize {
     } else {
         put(out, a, b" lines\n  last sum ")
     };
-    let sum = played.sum;
-    let c = put(out, b, &sum);
+    let c = put(out, b, &played.sum);
     let d = put(out, c, b"\n");
     if played.torn {
         return put(
@@ -456,8 +379,7 @@ fn say_other(rt: &impl Print, out: &mut [u8; ANSWER], played: Played) -> u8 {
 }
 
 pub fn is_issued(state: &[u8; STATE]) -> bool {
-    let zeros = [0u8; STATE];
-    same(state, &zeros)
+    state.iter().all(|b| *b == 0)
 }
 
 // The states that the last line and the one before it leave, beside the box.
@@ -470,27 +392,24 @@ fn compare(
     prior: &[u8; STATE],
     out: &mut [u8; ANSWER],
 ) -> u8 {
-    let fault = played.fault;
-    if let Fault::None = fault {
-        if closed {
-            if is_issued(state) {
-                return say_end(rt, out, played, b"  closed by a return\n");
-            }
-        }
-        if same(held, state) {
-            return say_end(rt, out, played, b"  the box is what the last line leaves\n");
-        }
-        if same(held, prior) {
-            return say_end(
-                rt,
-                out,
-                played,
-                b"  the box is what the line before the last leaves: the last call was not finished\n",
-            );
-        }
-        return say_other(rt, out, played);
+    if !matches!(played.fault, Fault::None) {
+        return say_fault(rt, played, out);
     }
-    say_fault(rt, played, out)
+    if closed && is_issued(state) {
+        return say_end(rt, out, played, b"  closed by a return\n");
+    }
+    if same(held, state) {
+        return say_end(rt, out, played, b"  the box is what the last line leaves\n");
+    }
+    if same(held, prior) {
+        return say_end(
+            rt,
+            out,
+            played,
+            b"  the box is what the line before the last leaves: the last call was not finished\n",
+        );
+    }
+    say_other(rt, out, played)
 }
 
 fn check_open<R: Files + Print>(
@@ -555,23 +474,15 @@ pub fn check<R: Files + Print>(rt: &R, path: &[u8], journal: &[u8]) -> u8 {
     let mut held = [0u8; STATE];
     let mut out = io::large_buffer();
     match find(rt, path, &mut held, &mut out) {
-        Found::State => check_state(rt, path, journal, &held, &mut out),
+        Ok(Found::State) => check_state(rt, path, journal, &held, &mut out),
         // a first opening that was cut off has left a journal, and no box yet
-        Found::Missing => {
-            if (journal.len() != 0) | store::is_beside(rt, path, b".journal") {
+        Ok(Found::Missing) => {
+            if journal.len() != 0 || store::is_beside(rt, path, b".journal") {
                 return check_state(rt, path, journal, &held, &mut out);
             }
-            say(rt, &mut out, b"error there is no such box\n");
-            UNUSABLE
+            say_missing(rt, &mut out)
         }
-        Found::Wrong => {
-            say(
-                rt,
-                &mut out,
-                b"error the file has another length than a box: it is none\n",
-            );
-            UNUSABLE
-        }
-        Found::Said => UNUSABLE,
+        Ok(Found::Wrong) => say_wrong(rt, &mut out),
+        Err(status) => status,
     }
 }

@@ -1,25 +1,15 @@
 // `--returned BOX`: the owner's look at a box that came back. Nothing is changed.
-use crate::found::{Found, find, say};
+use crate::found::{Found, find, say_missing, say_wrong};
+use crate::journal::is_issued;
 use crate::{FINE, NOT_OK, UNUSABLE};
 use layout::{BIDS, INITIAL, PERCENT, PHASE, RECORDS, STATE, TARGET};
 use rules::Phase;
 use std::rt::Files;
 use text::{ANSWER, put, put_named, send};
 
-// How many bytes from one place to another are not zero.
-fn left_in(state: &[u8; STATE], from: usize, to: usize) -> u64 {
-    let mut n = 0;
-    let mut i = from;
-    while i < STATE {
-        if to <= i {
-            return n;
-        }
-        if state[i] != 0 {
-            n += 1;
-        }
-        i += 1;
-    }
-    n
+// How many bytes are not zero.
+fn left_in(bytes: &[u8]) -> u64 {
+    bytes.iter().filter(|b| **b != 0).count() as u64
 }
 
 // `  WHAT: N bytes`, where there are any: the place after it.
@@ -53,33 +43,25 @@ fn put_remains(out: &mut [u8; ANSWER], state: &[u8; STATE], all: u64) -> usize {
     } else {
         put(out, a, b" bytes are not zero\n")
     };
-    let c = put_phase(out, b, state[PHASE]);
-    let d = put_left(
-        out,
-        c,
-        b"phase, unit, counts, round, statewide cap, who has filed",
-        left_in(state, PHASE, TARGET),
-    );
-    let e = put_left(
-        out,
-        d,
-        b"products: targets, caps, prices, marks",
-        left_in(state, TARGET, INITIAL),
-    );
-    let f = put_left(
-        out,
-        e,
-        b"bidders: eligibilities",
-        left_in(state, INITIAL, PERCENT),
-    );
-    let g = put_left(
-        out,
-        f,
-        b"rows: percentages, decrements",
-        left_in(state, PERCENT, RECORDS),
-    );
-    let h = put_left(out, g, b"records of bidders", left_in(state, RECORDS, BIDS));
-    put_left(out, h, b"cards filed", left_in(state, BIDS, STATE))
+    let mut to = put_phase(out, b, state[PHASE]);
+    let sections: [(&[u8], &[u8]); 6] = [
+        (
+            b"phase, unit, counts, round, statewide cap, who has filed",
+            &state[PHASE..TARGET],
+        ),
+        (
+            b"products: targets, caps, prices, marks",
+            &state[TARGET..INITIAL],
+        ),
+        (b"bidders: eligibilities", &state[INITIAL..PERCENT]),
+        (b"rows: percentages, decrements", &state[PERCENT..RECORDS]),
+        (b"records of bidders", &state[RECORDS..BIDS]),
+        (b"cards filed", &state[BIDS..]),
+    ];
+    for (what, bytes) in sections {
+        to = put_left(out, to, what, left_in(bytes));
+    }
+    to
 }
 
 // A file that a desk keeps beside a box: said where it is there.
@@ -99,47 +81,38 @@ fn put_beside(
 }
 
 fn put_found(out: &mut [u8; ANSWER], state: &[u8; STATE]) -> usize {
-    let all = left_in(state, 0, STATE);
+    let all = left_in(state);
     if all == 0 {
         return put(out, 0, b"issued: every byte is zero\n");
     }
     put_remains(out, state, all)
 }
 
-fn is_clean(state: &[u8; STATE]) -> bool {
-    left_in(state, 0, STATE) == 0
-}
-
-fn tell<R: Files + Print>(rt: &R, path: &[u8], state: &[u8; STATE], out: &mut [u8; ANSWER]) -> u8 {
-    let a = put_found(out, state);
-    let b = put_beside(
-        rt,
-        out,
-        a,
-        path,
+// What a desk keeps beside a box, by the ending of its name.
+const BESIDE: &[(&[u8], &[u8])] = &[
+    (
         b".before",
         b"its name with .before, the state before the last calculation or return\n",
-    );
-    let c = put_beside(
-        rt,
-        out,
-        b,
-        path,
+    ),
+    (
         b".names",
         b"its name with .names, the names of an auction's bidders and products\n",
-    );
-    let n = put_beside(
-        rt,
-        out,
-        c,
-        path,
+    ),
+    (
         b".journal",
         b"its name with .journal, the calls of an auction\n",
-    );
+    ),
+];
+
+fn tell<R: Files + Print>(rt: &R, path: &[u8], state: &[u8; STATE], out: &mut [u8; ANSWER]) -> u8 {
+    let mut n = put_found(out, state);
+    for (ending, what) in BESIDE {
+        n = put_beside(rt, out, n, path, ending, what);
+    }
     if !send(rt, out, n) {
         return UNUSABLE;
     }
-    if is_clean(state) {
+    if is_issued(state) {
         return FINE;
     }
     NOT_OK
@@ -149,19 +122,9 @@ pub fn inspect<R: Files + Print>(rt: &R, path: &[u8]) -> u8 {
     let mut state = [0u8; STATE];
     let mut out = io::large_buffer();
     match find(rt, path, &mut state, &mut out) {
-        Found::State => tell(rt, path, &state, &mut out),
-        Found::Missing => {
-            say(rt, &mut out, b"error there is no such box\n");
-            UNUSABLE
-        }
-        Found::Wrong => {
-            say(
-                rt,
-                &mut out,
-                b"error the file has another length than a box: it is none\n",
-            );
-            UNUSABLE
-        }
-        Found::Said => UNUSABLE,
+        Ok(Found::State) => tell(rt, path, &state, &mut out),
+        Ok(Found::Missing) => say_missing(rt, &mut out),
+        Ok(Found::Wrong) => say_wrong(rt, &mut out),
+        Err(status) => status,
     }
 }

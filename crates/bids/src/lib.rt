@@ -5,13 +5,14 @@
 mod line;
 
 ghost use Rattle.std.specs.Prelude.{◌≡◌, ◌&&◌, cond, ℕ, ◌+◌, ◌-◌, ◌<◌, ltb};
+ghost use Rattle.rules.specs.Answers.{answer_from};
 ghost use Rattle.rules.specs.Bid.{record_of, on_product, judged};
 ghost use Rattle.rules.specs.Layout.{loaded};
 ghost use Rattle.book.specs.Lent.{Lent};
 ghost use Rattle.bids.specs.Tally.{Judging, Numbering, Small, Tallied, Numbers, once_each, summed};
 
 pub use line::{Kept, default_line, exit_limits, increase, less, reduction};
-use rules::{Line, Record};
+use rules::{Line, Record, Refusal};
 
 // ---- One pass over the products
 
@@ -79,8 +80,7 @@ pub fn tally_of(s: &[u8], ticks: &[u8; 8], b: usize, lines: [Line; 8]) -> Tally
         rising: 0,
     };
     let mut kept = Kept::at_first();
-    let mut p: usize = 0;
-    while p < m {
+    for p in 0..m {
         let cap = book::cap(s, p);
         let tick = ticks[p] == 1;
         let price = book::price(s, p);
@@ -89,7 +89,6 @@ pub fn tally_of(s: &[u8], ticks: &[u8; 8], b: usize, lines: [Line; 8]) -> Tally
         let l = lines[p];
         sums = sums.with(r, l);
         kept = kept.with(r, l, cap, tick, price, before);
-        p += 1;
     }
     Tally { sums, kept }
 }
@@ -103,12 +102,10 @@ pub fn numbers_of(s: &[u8], b: usize, lines: [Line; 8]) -> [u8; 9]
 {
     let m = book::products(s);
     let mut counts = [0u8; 9];
-    let mut p: usize = 0;
-    while p < m {
+    for p in 0..m {
         let l = lines[p];
         let k = line::number(book::record(s, b * 8 + p), l);
         counts[k] = counts[k] + 1;
-        p += 1;
     }
     counts
 }
@@ -127,26 +124,14 @@ fn priorities_fit(s: &[u8], b: usize, lines: [Line; 8], t: Tally, switches: u32)
     }
     let counts = numbers_of(s, b, lines);
     let n = x.rising as usize;
-    let mut once = true;
-    let mut k: usize = 0;
-    while k < n {
-        once = once & (counts[k + 1] == 1);
-        k += 1;
-    }
+    let once = (0..n).all(|k| counts[k + 1] == 1);
     y.others & once
 }
 
-// The number where the rule is broken, else what the later rules say.
-fn refuse(broken: bool, number: u8, later: u8) -> u8
-    ensures { result ≡ cond broken number later }
-{
-    if broken { number } else { later }
-}
-
-// The number of the first rule that the bid breaks, or 0.
-pub fn judge(s: &[u8], ticks: &[u8; 8], b: usize, lines: [Line; 8]) -> u8
+// The first rule that the bid breaks.
+pub fn judge(s: &[u8], ticks: &[u8; 8], b: usize, lines: [Line; 8]) -> Result<(), Refusal>
     requires { Judging s.now ticks.now b }
-    ensures { result ≡ judged (loaded s.now) b lines }
+    ensures { result ≡ answer_from (judged (loaded s.now) b lines) }
 {
     let t = tally_of(s, ticks, b, lines);
     let x = t.sums;
@@ -154,11 +139,23 @@ pub fn judge(s: &[u8], ticks: &[u8; 8], b: usize, lines: [Line; 8]) -> u8
     let f = book::free(s, b).0 as u32;
     let switches = x.switches(f);
     let w = x.withdrawals(switches);
-    let fit = priorities_fit(s, b, lines, t, switches);
-    let from13 = refuse(!fit, 13, 0);
-    let from12 = refuse(!y.exits, 12, from13);
-    let from11 = refuse(!(y.leaves & (x.withdrawn == w)), 11, from12);
-    let from10 = refuse(x.going + f < x.bid, 10, from11);
-    let from9 = refuse(!y.ticks, 9, from10);
-    refuse(!y.caps, 8, from9)
+    if !y.caps {
+        return Err(Refusal::AboveCap);
+    }
+    if !y.ticks {
+        return Err(Refusal::Reduced);
+    }
+    if x.going + f < x.bid {
+        return Err(Refusal::AboveEligibility);
+    }
+    if !(y.leaves & (x.withdrawn == w)) {
+        return Err(Refusal::Withdrawn);
+    }
+    if !y.exits {
+        return Err(Refusal::ExitPrice);
+    }
+    if !priorities_fit(s, b, lines, t, switches) {
+        return Err(Refusal::Priorities);
+    }
+    Ok(())
 }

@@ -12,10 +12,7 @@ use rules::{Limits, Line, Lots, Price, Record, Tranches};
 pub fn less(a: u32, b: u32) -> u32
     ensures { (result ≡ a - b) × (result ≤ a) }
 {
-    if a <= b {
-        return 0;
-    }
-    a - b
+    a.saturating_sub(b)
 }
 
 // "Reduction R = g - b if positive, else 0."

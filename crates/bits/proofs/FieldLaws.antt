@@ -6,11 +6,11 @@ use native.Mathlib.Decide.{dec_lt}
 use native.Mathlib.Omega.{arith}
 use lib.ListN.{length}
 use borrow.Author.Tests.{le-leb, lt-leb}
-use Rattle.rules.specs.declared.Field.TheVariants.{Value, Past}
+use Rattle.std.specs.Prelude.{None, Some}
 use Rattle.rules.specs.Bits.{field_at}
 use Rattle.bits.specs.Fields.{Inside, field_in, next_at}
 
-pub field_in_lem : (s : List ℕ) (at w : ℕ) → Inside s at w → field_in s at w ≡ Value (field_at s at w)
+pub field_in_lem : (s : List ℕ) (at w : ℕ) → Inside s at w → field_in s at w ≡ Some (field_at s at w)
 unfolding field_in
 field_in_lem s at w h = rw (le-leb (length s) 114 h.short, le-leb w 17 h.narrow, le-leb (at + w) (8 * length s) h.inside)
 
@@ -38,17 +38,17 @@ next_fits s at w h =
 
 -- ---- the same, by what is tested
 
-pub field_inside : (s : List ℕ) (at w : ℕ) → length s ≤ 114 → w ≤ 17 → at + w ≤ 8 * length s → field_in s at w ≡ Value (field_at s at w)
+pub field_inside : (s : List ℕ) (at w : ℕ) → length s ≤ 114 → w ≤ 17 → at + w ≤ 8 * length s → field_in s at w ≡ Some (field_at s at w)
 field_inside s at w l n i = field_in_lem s at w (record { inside = i; narrow = n; short = l })
 
-pub field_long : (s : List ℕ) (at w : ℕ) → 114 < length s → field_in s at w ≡ Past
+pub field_long : (s : List ℕ) (at w : ℕ) → 114 < length s → field_in s at w ≡ None
 unfolding field_in
 field_long s at w h = simp (lt-leb (length s) 114 h)
 
-pub field_wide : (s : List ℕ) (at w : ℕ) → length s ≤ 114 → 17 < w → field_in s at w ≡ Past
+pub field_wide : (s : List ℕ) (at w : ℕ) → length s ≤ 114 → 17 < w → field_in s at w ≡ None
 unfolding field_in
 field_wide s at w l h = simp (le-leb (length s) 114 l, lt-leb w 17 h)
 
-pub field_beyond : (s : List ℕ) (at w : ℕ) → length s ≤ 114 → w ≤ 17 → 8 * length s < at + w → field_in s at w ≡ Past
+pub field_beyond : (s : List ℕ) (at w : ℕ) → length s ≤ 114 → w ≤ 17 → 8 * length s < at + w → field_in s at w ≡ None
 unfolding field_in
 field_beyond s at w l n h = simp (le-leb (length s) 114 l, le-leb w 17 n, lt-leb (at + w) (8 * length s) h)

@@ -14,6 +14,7 @@ ghost use Rattle.book.specs.Lent.{Long};
 use rules::{
     BasisPoints, Decrements, Item, Line, Lot, Lots, Price, Record, Row, Setup, Terms, Tranches,
 };
+use std::array;
 
 // ---- Numbers, most significant byte first
 
@@ -253,34 +254,14 @@ pub fn setup(s: &[u8]) -> Setup
     requires { Long s.now }
     ensures { result ≡ setup (loaded s.now) }
 {
-    let none = Item {
-        target: Tranches(0),
-        cap: Tranches(0),
-        start: 0,
-    };
-    let blank = Row {
-        percent: 0,
-        decrement: BasisPoints(0),
-    };
-    let mut item = [none; 8];
-    let mut table = [blank; 8];
-    let mut i: usize = 0;
-    while i < 8 {
-        let x = start(s, i);
-        item[i] = Item {
-            target: target(s, i),
-            cap: cap(s, i),
-            start: x.amount(),
-        };
-        table[i] = row(s, i);
-        i += 1;
-    }
-    let mut eligibility = [Tranches(0); 32];
-    let mut b: usize = 0;
-    while b < 32 {
-        eligibility[b] = initial(s, b);
-        b += 1;
-    }
+    let item = array::from_fn(|p| {
+        let target = target(s, p);
+        let cap = cap(s, p);
+        let start = start(s, p).amount();
+        Item { target, cap, start }
+    });
+    let row = array::from_fn(|i| row(s, i));
+    let eligibility = array::from_fn(|b| initial(s, b));
     let statewide = statewide(s);
     let terms = Terms {
         unit: unit(s),
@@ -290,7 +271,7 @@ pub fn setup(s: &[u8]) -> Setup
     };
     let decrements = Decrements {
         rows: s[layout::ROWS],
-        row: table,
+        row,
     };
     Setup {
         terms,

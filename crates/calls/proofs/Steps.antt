@@ -4,9 +4,9 @@ use mathlib.Core.Logic.{inl, inr}
 use mathlib.Core.List.{List, [], ◌∷◌, ◌++◌}
 use Prim.Native.Nat.{ℕ}
 use lib.ListN.{length}
+use Rattle.rules.specs.Price.{Override}
 use Rattle.rules.specs.declared.Settings.{Settings}
 use Rattle.rules.specs.declared.Tranches.{Tranches}
-use Rattle.rules.specs.declared.Chosen.{Chosen}
 use Rattle.rules.specs.Calls.{open_call, file_call, calculate_call, plain_call, cutback_call, return_call}
 use Rattle.rules.specs.Uses.{opens, files, calculates, calculates_plain, cuts, called, returned, used, Called, Reached}
 use Rattle.calls.specs.Lines.{open_word, file_word, bid_word, calculate_word, cutback_word, return_word, Made, Left, first_word, Step, Steps, Served, NoUndo}
@@ -21,10 +21,10 @@ module _ (s t : List ℕ) where
   pub bid : (card : List ℕ) → t ≡ (file_call s card).bytes → Made bid_word s t
   bid card e = inr (called (files card) tt, (inr refl, e))
 
-  pub calculated : (draw : List ℕ) (os : List Chosen) → t ≡ (calculate_call s draw os).bytes → Made calculate_word s t
+  pub calculated : (draw : List ℕ) (os : List Override) → t ≡ (calculate_call s draw os).bytes → Made calculate_word s t
   calculated draw os e = inr (called (calculates draw os) tt, (refl, e))
 
-  pub calculated_plain_lem : (draw : List ℕ) (os : List Chosen) (order : List ℕ) → t ≡ (plain_call s draw os order).bytes → Made calculate_word s t
+  pub calculated_plain_lem : (draw : List ℕ) (os : List Override) (order : List ℕ) → t ≡ (plain_call s draw os order).bytes → Made calculate_word s t
   calculated_plain_lem draw os order e = inr (called (calculates_plain draw os order) tt, (refl, e))
 
   pub cut : (targets caps : List Tranches) → t ≡ (cutback_call s targets caps).bytes → Made cutback_word s t
@@ -32,10 +32,6 @@ module _ (s t : List ℕ) where
 
   pub returned_once : t ≡ (return_call s).bytes → Made return_word s t
   returned_once e = inr (returned, (refl, e))
-
--- what a word's call leaves, by another name for the word
-pub by_word : (w v s t : List ℕ) → w ≡ v → Made v s t → Made w s t
-by_word w v s t e h = rw e h
 
 -- it is one call of the console or a return, or none
 pub one_call : (w s t : List ℕ) → Made w s t → Called s t

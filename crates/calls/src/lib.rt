@@ -10,7 +10,7 @@ use asked::{
 };
 use check::same;
 use layout::STATE;
-use rules::{Answer, Calculation, Chosen, Count, Line, Settings};
+use rules::{BasisPoints, Calculation, Line, Refusal, Settings};
 use store::{Act, Kind, is_wrong, number_on};
 use text::{ANSWER, Cursor, put, put_hex, put_named};
 use view::{put_calculated, put_cut, put_filed, put_opened, put_refused};
@@ -22,11 +22,6 @@ pub enum Made {
     Other,
     Said(usize),
     Done(Act, usize),
-}
-
-// The state before a call.
-fn copy_of(state: &[u8; STATE]) -> [u8; STATE] {
-    *state
 }
 
 // A refusal of any call on a state, with what the state is.
@@ -44,16 +39,37 @@ pub fn other_length(kind: Kind, state: &[u8; STATE], out: &mut [u8; ANSWER]) -> 
     0
 }
 
+// Where more stands in the line, or the box has another length, how long what is said of that is; else 0.
+pub fn unready(
+    line: &[u8],
+    c: Cursor,
+    kind: Kind,
+    state: &[u8; STATE],
+    out: &mut [u8; ANSWER],
+) -> usize {
+    let more = ends(line, c, out);
+    if more != 0 {
+        return more;
+    }
+    other_length(kind, state, out)
+}
+
 // ---- Opening and return
 
 // What is said of an opening: the settings as they were taken, or which of them is outside its limits.
-fn opened(answer: Answer, settings: Settings, work: &[u8; STATE], out: &mut [u8; ANSWER]) -> Made {
+fn opened(
+    answer: Result<(), Refusal>,
+    settings: Settings,
+    work: &[u8; STATE],
+    out: &mut [u8; ANSWER],
+) -> Made {
     match answer {
-        Answer::Done => {
+        Ok(()) => {
             let a = put(out, 0, b"ok\n");
             Made::Done(Act::Opening, put_opened(out, a, work))
         }
-        Answer::Refused(n) => {
+        Err(e) => {
+            let n = e.number();
             let a = put_refused(out, n);
             let b = remark::of_opening(out, a, n, work, settings);
             Made::Said(put(out, b, b"\n"))
@@ -62,7 +78,7 @@ fn opened(answer: Answer, settings: Settings, work: &[u8; STATE], out: &mut [u8;
 }
 
 // Settings that are handed over are known to have their lengths.
-fn open_on(work: &mut [u8; STATE], settings: Settings) -> Answer
+fn open_on(work: &mut [u8; STATE], settings: Settings) -> Result<(), Refusal>
     ensures { Makes open_word work.old work.new }
 {
     console::open(work, settings)
@@ -84,13 +100,13 @@ fn open(line: &[u8], c: Cursor, kind: Kind, work: &mut [u8; STATE], out: &mut [u
     opened(answer, settings, work, out)
 }
 
-fn returned(answer: Answer, work: &[u8; STATE], out: &mut [u8; ANSWER]) -> Made {
+fn returned(answer: Result<(), Refusal>, work: &[u8; STATE], out: &mut [u8; ANSWER]) -> Made {
     match answer {
-        Answer::Done => {
+        Ok(()) => {
             let a = put(out, 0, b"ok\n");
             Made::Done(Act::Return, view::put_back(out, a, work))
         }
-        Answer::Refused(n) => Made::Said(refused(n, work, out)),
+        Err(e) => Made::Said(refused(e.number(), work, out)),
     }
 }
 
@@ -103,11 +119,7 @@ fn return_box(
 ) -> Made
     ensures { Makes return_word work.old work.new }
 {
-    let more = ends(line, c, out);
-    if more != 0 {
-        return Made::Said(more);
-    }
-    let wrong = other_length(kind, work, out);
+    let wrong = unready(line, c, kind, work, out);
     if wrong != 0 {
         return Made::Said(wrong);
     }
@@ -122,9 +134,9 @@ fn return_box(
 fn calculate_on(
     work: &mut [u8; STATE],
     draw: &[u8],
-    overrides: [Chosen; 8],
+    overrides: [Option<BasisPoints>; 8],
     order: &[u8],
-) -> Calculation
+) -> Result<Calculation, Refusal>
     ensures { Makes calculate_word work.old work.new }
 {
     if order.len() == 0 {
@@ -135,16 +147,16 @@ fn calculate_on(
 
 // `ok kept K outbid O`, and what the round did; or what is wrong with the draw, an override or the order.
 fn calculated(
-    answer: Calculation,
+    answer: Result<Calculation, Refusal>,
     draw: &[u8],
-    overrides: [Chosen; 8],
+    overrides: [Option<BasisPoints>; 8],
     order: &[u8],
     before: &[u8; STATE],
     work: &[u8; STATE],
     out: &mut [u8; ANSWER],
 ) -> Made {
     match answer {
-        Calculation::Done { kept, outbid } => {
+        Ok(Calculation { kept, outbid }) => {
             let a = put_named(out, 0, b"ok kept ", kept as u64);
             let b = put_named(out, a, b" outbid ", outbid as u64);
             let c = put(out, b, b"\n");
@@ -153,7 +165,8 @@ fn calculated(
                 put_calculated(out, c, before, overrides, work),
             )
         }
-        Calculation::Refused(n) => {
+        Err(e) => {
+            let n = e.number();
             let a = put_refused(out, n);
             let b = remark::of_round(out, a, n, work, draw, overrides, order);
             Made::Said(put(out, b, b"\n"))
@@ -192,7 +205,7 @@ fn calculate(
         return Made::Other;
     }
     let overrides = asked.overrides;
-    let before = copy_of(work);
+    let before = *work;
     let answer = calculate_on(work, &draw[0..k], overrides, &order[0..m]);
     calculated(
         answer,
@@ -218,25 +231,26 @@ fn open_products(kind: Kind, state: &[u8; STATE], out: &mut [u8; ANSWER]) -> Pro
         return Products::Said(wrong);
     }
     match console::count(state) {
-        Count::ToFile(_) => Products::Open(book::products(state)),
-        Count::Refused(n) => Products::Said(refused(n, state, out)),
+        Ok(_) => Products::Open(book::products(state)),
+        Err(e) => Products::Said(refused(e.number(), state, out)),
     }
 }
 
 // `ok`, and what the cutback left; or which condition is not met.
 fn cut(
-    answer: Answer,
+    answer: Result<(), Refusal>,
     revised: Revised,
     before: &[u8; STATE],
     work: &[u8; STATE],
     out: &mut [u8; ANSWER],
 ) -> Made {
     match answer {
-        Answer::Done => {
+        Ok(()) => {
             let a = put(out, 0, b"ok\n");
             Made::Done(Act::Plain, put_cut(out, a, before, work))
         }
-        Answer::Refused(n) => {
+        Err(e) => {
+            let n = e.number();
             let a = put_refused(out, n);
             let targets = revised.targets;
             let caps = revised.caps;
@@ -266,7 +280,7 @@ fn cutback(
                 let revised = revised_of(numbers);
                 let targets = revised.targets;
                 let caps = revised.caps;
-                let before = copy_of(work);
+                let before = *work;
                 let answer = console::cutback(work, targets, caps);
                 cut(answer, revised, &before, work, out)
             }
@@ -280,7 +294,7 @@ fn cutback(
 
 // What is said of a card that is filed, after the first line; or where it breaks a rule.
 fn filed(
-    answer: Answer,
+    answer: Result<(), Refusal>,
     first: usize,
     card: &[u8],
     before: &[u8; STATE],
@@ -288,12 +302,13 @@ fn filed(
     out: &mut [u8; ANSWER],
 ) -> Made {
     match answer {
-        Answer::Done => {
+        Ok(()) => {
             let b = bidder_of(card);
             let a = put_filed(out, first, work, b);
             Made::Done(Act::Plain, put_again(out, a, before, work, b))
         }
-        Answer::Refused(n) => {
+        Err(e) => {
+            let n = e.number();
             let a = put_refused(out, n);
             let b = remark::of_card(out, a, n, work, card);
             Made::Said(put(out, b, b"\n"))
@@ -301,18 +316,14 @@ fn filed(
     }
 }
 
-fn first_of(card: &[u8]) -> u8 {
-    if card.len() == 0 {
-        return 0;
-    }
-    card[0]
-}
-
 // Whose card it is: its first five bits.
 fn bidder_of(card: &[u8]) -> usize
     ensures { result < 32 }
 {
-    first_of(card) as usize / 8
+    match card.first() {
+        Some(byte) => *byte as usize / 8,
+        None => 0,
+    }
 }
 
 // "The last valid card in a round stands": where bidder b had filed one before, what became of that. Only among one bidder's own cards does
@@ -354,8 +365,7 @@ fn file(line: &[u8], c: Cursor, kind: Kind, work: &mut [u8; STATE], out: &mut [u
             if wrong != 0 {
                 return Made::Said(wrong);
             }
-            let bytes = bytes_of(card);
-            file_part(work, &bytes, k, out)
+            file_bytes(work, &card[..k.min(1024)], out)
         }
         Numbers::Said(n) => Made::Said(n),
     }
@@ -364,20 +374,10 @@ fn file(line: &[u8], c: Cursor, kind: Kind, work: &mut [u8; STATE], out: &mut [u
 fn file_bytes(work: &mut [u8; STATE], card: &[u8], out: &mut [u8; ANSWER]) -> Made
     ensures { Makes file_word work.old work.new }
 {
-    let before = copy_of(work);
+    let before = *work;
     let answer = console::file(work, card);
     let first = put(out, 0, b"ok\n");
     filed(answer, first, card, &before, work, out)
-}
-
-// The first k bytes are the card; a card that has more than all of them is none.
-fn file_part(work: &mut [u8; STATE], card: &[u8], k: usize, out: &mut [u8; ANSWER]) -> Made
-    ensures { Makes file_word work.old work.new }
-{
-    if k <= card.len() {
-        return file_bytes(work, &card[0..k], out);
-    }
-    file_bytes(work, card, out)
 }
 
 // How many bytes a card has. A count that has no card gets none.
@@ -420,7 +420,7 @@ pub fn not_written(
 fn file_written(work: &mut [u8; STATE], card: &[u8], out: &mut [u8; ANSWER]) -> Made
     ensures { Makes bid_word work.old work.new }
 {
-    let before = copy_of(work);
+    let before = *work;
     let answer = console::file(work, card);
     let first = put_card(out, card);
     filed(answer, first, card, &before, work, out)
@@ -440,12 +440,12 @@ fn bid_on(
     let k = card_length(products);
     let mut room = [0u8; 1024];
     match console::write(&mut room[0..k], products, one_byte(bidder), round, lines) {
-        Answer::Done => {
+        Ok(()) => {
             let card = bytes_of(room);
             file_written(work, &card[0..k], out)
         }
-        Answer::Refused(n) => Made::Said(not_written(
-            n,
+        Err(e) => Made::Said(not_written(
+            e.number(),
             products,
             one_byte(bidder),
             round,
@@ -491,23 +491,13 @@ pub fn make(
 ) -> Made
     ensures { Makes w.now work.old work.new }
 {
-    if same(w, b"open") {
-        return open(line, c, kind, work, out);
+    match w {
+        b"open" => open(line, c, kind, work, out),
+        b"file" => file(line, c, kind, work, out),
+        b"bid" => bid(line, c, kind, work, out),
+        b"calculate" => calculate(line, c, kind, work, out),
+        b"cutback" => cutback(line, c, kind, work, out),
+        b"return" => return_box(line, c, kind, work, out),
+        _ => Made::Other,
     }
-    if same(w, b"file") {
-        return file(line, c, kind, work, out);
-    }
-    if same(w, b"bid") {
-        return bid(line, c, kind, work, out);
-    }
-    if same(w, b"calculate") {
-        return calculate(line, c, kind, work, out);
-    }
-    if same(w, b"cutback") {
-        return cutback(line, c, kind, work, out);
-    }
-    if same(w, b"return") {
-        return return_box(line, c, kind, work, out);
-    }
-    Made::Other
 }

@@ -12,10 +12,13 @@ use lib.Dec.{ltb, eqb}
 use borrow.Author.Tests.{lt-ltb, le-ltb, ltb-true, eq-eqb, eqb-true}
 use Rattle.rules.specs.declared.Line.{Line}
 use Rattle.rules.specs.declared.CardRead.{CardRead}
-use Rattle.rules.specs.declared.Card.TheVariants.{Bid, Refused}
+use Rattle.rules.specs.declared.Refusal.{Refusal}
+use Rattle.rules.specs.declared.Bid.{Bid}
+use Rattle.std.specs.Prelude.{Result, Ok, Err, is_ok}
+use Rattle.rules.proofs.Lists.{clash}
 use Rattle.rules.specs.Bits.{Bytes, bit_at, field_at, put_field}
 use Rattle.rules.specs.Count.{all_up_to}
-use Rattle.rules.specs.Card.{no_line, line_bits, line_bit, card_length, count_fits, read_lines, filled, read_refused, bid_of, read_card, put_lines, card_of, writable}
+use Rattle.rules.specs.Card.{no_line, line_bits, line_bit, card_length, count_fits, read_lines, filled, read_refused, bid_by, bid_of, read_card, put_lines, card_of, writable}
 use Rattle.card.specs.Parts.{line_writable}
 use Rattle.bits.proofs.BitLaws.{Agree, field_agree, agree_field, length_put, put_out, field_before, field_put, bits_ext, bytes_put, bytes_zero, bit_zero, field_zero}
 use Rattle.card.proofs.AnswerLaws.{counted, read_bid}
@@ -23,7 +26,7 @@ use Rattle.card.proofs.LineLaws.{agree_line, Fits, fits, zero_line, all_at, leng
 use Rattle.card.proofs.EveryCard.{card_fits}
 
 abbrev pub bid : ℕ → ℕ → List Line → CardRead
-bid b r ls = record { card = Bid b r; lines = ls }
+bid b r ls = record { card = Ok (bid_by b r); lines = ls }
 
 -- what it is that a bid can be written
 record Fitting (n b r : ℕ) (ls : List Line) : Type 0 where
@@ -77,7 +80,7 @@ module _ (n b r : ℕ) (ls : List Line) where
     -- every bid that can be written has a card that reads back to it
     pub card_reads : read_card (card_of n b r ls) n ≡ bid b r ls
     unfolding card_of head
-    card_reads = read_bid s n (counted n count).0 most card_long card_filled ∙ (λ i. record { card = Bid (eb i) (er i); lines = el i })
+    card_reads = read_bid s n (counted n count).0 most card_long card_filled ∙ (λ i. record { card = Ok (bid_by (eb i) (er i)); lines = el i })
       where
         most : n ≤ 8
         most = (counted n count).1
@@ -123,11 +126,13 @@ record Accepted (s : List ℕ) (n b r : ℕ) (ls : List Line) : Type 0 where
   round : field_at s 5 12 ≡ r
   lines : read_lines s n ≡ ls
 
+abbrev unwrapped : Result Bid Refusal → Bid
+unwrapped (Ok x) = x
+unwrapped (Err e) = bid_by 0 0
+
 refused_no_bid : (k b r : ℕ) (ls : List Line) → read_refused k ≡ bid b r ls → ⊥
 refused_no_bid k b r ls e =
-    let q : Refused k ≡ Bid b r = ap (λ (x : CardRead). x.card) e in
-    let z : ◌≡◌ {A = ℕ} 0 1 = cc in
-    omega arith
+    clash refl (ap (λ (x : CardRead). is_ok x.card) (sym e))
 
 tests_passed : (c l f : Bool) (x : CardRead) (b r : ℕ) (ls : List Line) →
     cond c (cond l (cond f x (read_refused 5)) (read_refused 4)) (read_refused 29) ≡ bid b r ls →
@@ -141,13 +146,13 @@ accepted : (s : List ℕ) (n b r : ℕ) (ls : List Line) → read_card s n ≡ b
 unfolding read_card
 accepted s n b r ls e =
     let p = tests_passed (count_fits n) (eqb (length s) (card_length n)) (filled s n) (bid_of s n) b r ls e in
-    let w : Bid (field_at s 0 5) (field_at s 5 12) ≡ Bid b r = ap (λ (x : CardRead). x.card) p.1.1 in
+    let w = ap (λ (x : CardRead). unwrapped x.card) p.1.1 in
     record {
       count = p.0.0;
       long = eqb-true _ _ p.0.1;
       filled = eqb-true _ _ p.1.0;
-      bidder = cc;
-      round = cc;
+      bidder = ap (λ (x : Bid). x.bidder) w;
+      round = ap (λ (x : Bid). x.round) w;
       lines = ap (λ (x : CardRead). x.lines) p.1.1;
     }
 

@@ -3,10 +3,10 @@ use mathlib.Core.Path.{◌≡◌, refl}
 use mathlib.Core.List.{List, [], ◌∷◌, map}
 use Prim.Native.Nat.{ℕ, ◌-◌, ◌*◌}
 use Rattle.rules.specs.declared.Line.{Line}
-use Rattle.rules.specs.declared.Card.TheVariants.{Bid}
+use Rattle.std.specs.Prelude.{Ok}
 use Rattle.rules.specs.Bits.{bit_at, field_at, set_in, set_bit, put_field}
 use Rattle.rules.specs.Lots.{lot, lots, no_lots}
-use Rattle.rules.specs.Card.{line, no_line, line_bit, card_length, read_lines, read_card, put_lot, put_lots, put_line, put_lines, card_of}
+use Rattle.rules.specs.Card.{line, no_line, bid_by, line_bit, card_length, read_lines, read_card, put_lot, put_lots, put_line, put_lines, card_of}
 
 -- "one tranche of the first product, two of the second with priority 1, nothing withdrawn"
 abbrev lines : List Line
@@ -23,7 +23,7 @@ unfolding card_of put_lines put_line put_lots put_lot put_field set_bit set_in
 example_written = refl
 
 -- and this card reads to that bid
-pub example_read : read_card bytes 2 ≡ record { card = Bid 1 2; lines = lines }
+pub example_read : read_card bytes 2 ≡ record { card = Ok (bid_by 1 2); lines = lines }
 unfolding read_card read_lines field_at bit_at
 example_read = refl
 
@@ -40,7 +40,7 @@ pub lots_written : card_of 1 1 2 lot_lines ≡ lot_bytes_lem
 unfolding card_of put_lines put_line put_lots put_lot put_field set_bit set_in
 lots_written = refl
 
-pub lots_read_lem : read_card lot_bytes_lem 1 ≡ record { card = Bid 1 2; lines = lot_lines }
+pub lots_read_lem : read_card lot_bytes_lem 1 ≡ record { card = Ok (bid_by 1 2); lines = lot_lines }
 unfolding read_card read_lines field_at bit_at
 lots_read_lem = refl
 

@@ -7,14 +7,15 @@ use native.Mathlib.Numerals.{add-one}
 use native.Mathlib.Omega.{arith}
 use lib.ListN.{length, set}
 use lib.Dec.{eqb}
-use Rattle.rules.specs.declared.Card.{Card}
-use Rattle.rules.specs.declared.Card.TheVariants.{Bid, Refused}
-use Rattle.rules.specs.declared.Field.{Field}
+use Rattle.std.specs.Prelude.{Option, Result, Ok, Err}
+use Rattle.rules.specs.declared.Refusal.{Refusal}
+use Rattle.rules.specs.declared.Refusal.TheVariants.{Filling}
+use Rattle.rules.specs.declared.Bid.{Bid}
 use Rattle.rules.specs.declared.Lot.{Lot}
 use Rattle.rules.specs.declared.Line.{Line}
 use Rattle.rules.specs.Lots.{lot, lots}
 use Rattle.rules.specs.Bits.{field_at}
-use Rattle.rules.specs.Card.{line, lot_bits, line_bits, line_bit, lot_from, line_at, read_lines, card_length, filled}
+use Rattle.rules.specs.Card.{bid_by, line, lot_bits, line_bits, line_bit, lot_from, line_at, read_lines, card_length, filled}
 use Rattle.bits.specs.declared.Reader.{Reader}
 use Rattle.bits.specs.Fields.{Inside, field_in, past}
 use Rattle.bits.proofs.BitLaws.{field_small}
@@ -29,11 +30,11 @@ within h m a at w l n = record { inside = omega arith; narrow = n; short = a.sho
 pub past_on : (h : Reader) (w : ℕ) → Inside h.card.now h.at w → past h w ≡ on h w
 past_on h w i j = record { card = h.card; at = next_in h.card.now h.at w i j }
 
-pub value_in : (s : List ℕ) (at w : ℕ) (r : Field) → Inside s at w → r ≡ field_in s at w → value_of r ≡ field_at s at w
+pub value_in : (s : List ℕ) (at w : ℕ) (r : Option ℕ) → Inside s at w → r ≡ field_in s at w → value_of r ≡ field_at s at w
 unfolding value_of
 value_in s at w r i e = rw (e, field_in_lem s at w i)
 
-pub value_below : (s : List ℕ) (at w : ℕ) (r : Field) → Inside s at w → r ≡ field_in s at w → value_of r < 2 ^ w
+pub value_below : (s : List ℕ) (at w : ℕ) (r : Option ℕ) → Inside s at w → r ≡ field_in s at w → value_of r < 2 ^ w
 value_below s at w r i e = rw (value_in s at w r i e) (field_small s at w)
 
 -- one line more
@@ -52,12 +53,12 @@ then_on h h' h'' m n e e' =
     e' ∙ ap (λ (r : Reader). on r n) e ∙ (λ i. record { card = h.card; at = (let p : h.at + m + n ≡ h.at + (m + n) = omega arith in p) i })
 
 -- a field of w bits, taken where they lie ahead
-pub record Takes (h h' : Reader) (w : ℕ) (f : Field) : Type 0 where
+pub record Takes (h h' : Reader) (w : ℕ) (f : Option ℕ) : Type 0 where
   pub value : value_of f ≡ field_at h.card.now h.at w
   pub small : value_of f < 2 ^ w
   pub goes : h' ≡ on h w
 
-pub takes : (h h' : Reader) (m w : ℕ) (f : Field) → Ahead h m → w ≤ m → w ≤ 17 → (f ≡ field_in h.card.now h.at w) × (h' ≡ past h w) → Takes h h' w f
+pub takes : (h h' : Reader) (m w : ℕ) (f : Option ℕ) → Ahead h m → w ≤ m → w ≤ 17 → (f ≡ field_in h.card.now h.at w) × (h' ≡ past h w) → Takes h h' w f
 takes h h' m w f a l n e =
     let i = within h m a h.at w (omega arith) n in
     record { value = value_in h.card.now h.at w f i e.0; small = value_below h.card.now h.at w f i e.0; goes = e.1 ∙ past_on h w i }
@@ -68,7 +69,7 @@ read_on f h h' m n e q = rw (e, q)
 
 -- ---- a lot, and a line
 
-pub lot_taken : (h h₁ h₂ : Reader) (c e : Field) (r : Lot) → Takes h h₁ 8 c → Takes h₁ h₂ 17 e → r ≡ lot (value_of c) (value_of e)
+pub lot_taken : (h h₁ h₂ : Reader) (c e : Option ℕ) (r : Lot) → Takes h h₁ 8 c → Takes h₁ h₂ 17 e → r ≡ lot (value_of c) (value_of e)
     → (r ≡ lot_from h.card.now h.at) × (h₂ ≡ on h lot_bits)
 lot_taken h h₁ h₂ c e r t t' p =
     (p ∙ (λ i. lot (t.value i) ((t'.value ∙ read_on (λ s at. field_at s at 17) h h₁ 8 (h.at + 8) t.goes refl) i)), then_on h h₁ h₂ 8 17 t.goes t'.goes)
@@ -87,7 +88,7 @@ lot_ahead h h' k a l e = ahead_on h h' line_bits (8 + k * lot_bits) lot_bits a e
 pub priority_ahead : (h h' : Reader) → Ahead h line_bits → AtLot h 4 h' → Ahead h' 3
 priority_ahead h h' a e = ahead_on h h' line_bits (8 + 4 * lot_bits) 3 a e (omega arith)
 
-pub line_taken : (h h₁ h₂ h₃ h₄ h₅ h₆ : Reader) (c d : Field) (r₁ r₂ r₃ r₄ : Lot) (l : Line)
+pub line_taken : (h h₁ h₂ h₃ h₄ h₅ h₆ : Reader) (c d : Option ℕ) (r₁ r₂ r₃ r₄ : Lot) (l : Line)
     → Takes h h₁ 8 c → AtLot h 0 h₁ → AtLot h 1 h₂ → AtLot h 2 h₃ → AtLot h 3 h₄ → AtLot h 4 h₅ → Takes h₅ h₆ 3 d
     → r₁ ≡ lot_from h₁.card.now h₁.at → r₂ ≡ lot_from h₂.card.now h₂.at → r₃ ≡ lot_from h₃.card.now h₃.at → r₄ ≡ lot_from h₄.card.now h₄.at
     → l ≡ line (value_of c) (lots r₁ r₂ r₃ r₄) (value_of d) → (l ≡ line_at h.card.now h.at) × (h₆ ≡ on h line_bits)
@@ -118,7 +119,7 @@ line_stored h h' i ls r z e p q =
     rw (read_next h.card.now i, p, q, read_on line_at h h' (line_bits * i) (line_bit i) e (omega arith))
 
 -- the bidder and the round
-pub record Head (h h₁ h₂ : Reader) (b r : Field) : Type 0 where
+pub record Head (h h₁ h₂ : Reader) (b r : Option ℕ) : Type 0 where
   pub bidder : Takes h h₁ 5 b
   pub round : Takes h₁ h₂ 12 r
   pub goes : h₂ ≡ on h 17
@@ -128,7 +129,7 @@ module _ (s : List ℕ) (n : ℕ) (h : Reader) (eight : n ≤ 8) (long : length 
   card_ahead : Ahead h (8 * card_length n)
   card_ahead = record { inside = omega (arith, ap length over); short = omega (arith, ap length over) }
 
-  pub head_taken : (h₁ h₂ : Reader) (b r : Field) → (b ≡ field_in h.card.now h.at 5) × (h₁ ≡ past h 5) → (r ≡ field_in h₁.card.now h₁.at 12) × (h₂ ≡ past h₁ 12)
+  pub head_taken : (h₁ h₂ : Reader) (b r : Option ℕ) → (b ≡ field_in h.card.now h.at 5) × (h₁ ≡ past h 5) → (r ≡ field_in h₁.card.now h₁.at 12) × (h₂ ≡ past h₁ 12)
       → Head h h₁ h₂ b r
   head_taken h₁ h₂ b r e e' =
       let t = takes h h₁ (8 * card_length n) 5 b card_ahead (omega arith) (omega arith) e in
@@ -139,10 +140,10 @@ module _ (s : List ℕ) (n : ℕ) (h : Reader) (eight : n ≤ 8) (long : length 
   lines_ahead h₂ e = (eight, rw e (omega arith), ahead_on h h₂ (8 * card_length n) 17 (line_bits * n) card_ahead e (omega arith))
 
   -- "Zero bits fill the last byte"
-  pub card_taken : (h₁ h₂ h₃ h₄ : Reader) (b r f : Field) (w : ℕ) (k : Card)
+  pub card_taken : (h₁ h₂ h₃ h₄ : Reader) (b r f : Option ℕ) (w : ℕ) (k : Result Bid Refusal)
       → Head h h₁ h₂ b r → h₃ ≡ on h₂ (line_bits * n) → w ≡ 8 * card_length n - line_bit n → (f ≡ field_in h₃.card.now h₃.at w) × (h₄ ≡ past h₃ w)
-      → k ≡ cond (eqb (value_of f) 0) (Bid (value_of b) (value_of r)) (Refused 5)
-      → k ≡ cond (filled s n) (Bid (field_at s 0 5) (field_at s 5 12)) (Refused 5)
+      → k ≡ cond (eqb (value_of f) 0) (Ok (bid_by (value_of b) (value_of r))) (Err Filling)
+      → k ≡ cond (filled s n) (Ok (bid_by (field_at s 0 5) (field_at s 5 12))) (Err Filling)
   card_taken h₁ h₂ h₃ h₄ b r f w k t e p e' q = rw (q, bidder, round, filling)
     where
       bidder : value_of b ≡ field_at s 0 5

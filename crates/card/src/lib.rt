@@ -2,17 +2,18 @@
 // four lots, each a count of 8 bits and a price of 17", "switching priority 3. Zero bits fill the last byte."
 #![tactic(auto)]
 
-ghost use Rattle.std.specs.Prelude.{◌≡◌, cond, ◌+◌, ◌*◌, ◌-◌, ◌^◌, ◌≤◌, ◌<◌, length, replicate, ltb, eqb};
-ghost use Rattle.rules.specs.declared.Card.TheVariants.{Bid, Refused};
+ghost use Rattle.std.specs.Prelude.{◌≡◌, cond, ◌+◌, ◌*◌, ◌-◌, ◌^◌, ◌≤◌, ◌<◌, length, replicate, ltb, eqb, Ok, Err};
+ghost use Rattle.rules.specs.declared.Refusal.TheVariants.{Filling};
+ghost use Rattle.rules.specs.Answers.{number_of};
 ghost use Rattle.rules.specs.Count.{all_up_to};
 ghost use Rattle.rules.specs.Allowed.{limits};
 ghost use Rattle.rules.specs.Lots.{lot, lots, lot_zero, lots_zero};
 ghost use Rattle.rules.specs.Bits.{field_at};
-ghost use Rattle.rules.specs.Card.{line, no_line, lot_bits, line_bits, line_bit, card_length, lot_fits, lots_fit, line_fits, line_zero, lot_from, line_at, read_lines, filled, read_refused, read_card, put_lot, put_lots, put_line, put_lines, write_card};
+ghost use Rattle.rules.specs.Card.{line, no_line, lot_bits, line_bits, line_bit, card_length, lot_fits, lots_fit, line_fits, line_zero, lot_from, line_at, read_lines, filled, read_refused, bid_by, read_card, put_lot, put_lots, put_line, put_lines, write_card};
 ghost use Rattle.card.specs.Parts.{value_of, Ahead, on, line_writable};
 
 use bits::{Reader, put_field};
-use rules::{Answer, Card, CardRead, Field, Limits, Line, Lot, Lots, Tranches};
+use rules::{Bid, CardRead, Limits, Line, Lot, Lots, Refusal, Tranches};
 
 // ---- the fields' bits
 
@@ -56,16 +57,16 @@ pub fn filling_for(products: usize) -> usize
 // ---- reading
 
 // What a field's answer holds: of a field past the card nothing.
-fn value_of(field: Field) -> u32
+fn value_of(field: Option<u32>) -> u32
     ensures { result ≡ value_of field }
 {
-    let Field::Value(value) = field else {
+    let Some(value) = field else {
         return 0;
     };
     value
 }
 
-fn lot_of(count: Field, exit: Field) -> Lot
+fn lot_of(count: Option<u32>, exit: Option<u32>) -> Lot
     requires { value_of count < 2 ^ 8 }
     ensures { result ≡ lot (value_of count) (value_of exit) }
 {
@@ -75,7 +76,14 @@ fn lot_of(count: Field, exit: Field) -> Lot
     }
 }
 
-fn line_of(tranches: Field, one: Lot, two: Lot, three: Lot, four: Lot, priority: Field) -> Line
+fn line_of(
+    tranches: Option<u32>,
+    one: Lot,
+    two: Lot,
+    three: Lot,
+    four: Lot,
+    priority: Option<u32>,
+) -> Line
     requires { (value_of tranches < 2 ^ 8) × (value_of priority < 2 ^ 3) }
     ensures { result ≡ line (value_of tranches) (lots one two three four) (value_of priority) }
 {
@@ -128,32 +136,30 @@ fn take_lines<'s, 'a>(reader: &'s mut Reader<'a>, products: usize) -> [Line; 8]
     ensures { (result ≡ read_lines reader.old.card.now products) × (reader.new ≡ on reader.old (line_bits * products)) }
 {
     let mut lines = no_lines();
-    let mut i: usize = 0;
-    while i < products {
+    for i in 0..products {
         lines[i] = take_line(reader);
-        i += 1;
     }
     lines
 }
 
 // A bid of the fields taken, unless bits that fill the card are not zero.
-fn card_of(bidder: Field, round: Field, filling: Field) -> Card
+fn card_of(bidder: Option<u32>, round: Option<u32>, filling: Option<u32>) -> Result<Bid, Refusal>
     requires { (value_of bidder < 2 ^ 5) × (value_of round < 2 ^ 12) }
-    ensures { result ≡ cond (eqb (value_of filling) 0) (Bid (value_of bidder) (value_of round)) (Refused 5) }
+    ensures { result ≡ cond (eqb (value_of filling) 0) (Ok (bid_by (value_of bidder) (value_of round))) (Err Filling) }
 {
     if value_of(filling) != 0 {
-        return Card::Refused(5);
+        return Err(Refusal::Filling);
     }
     let bidder = value_of(bidder) as u8;
     let round = value_of(round) as u16;
-    Card::Bid { bidder, round }
+    Ok(Bid { bidder, round })
 }
 
 // A card of its length, by one reader: from the first bit on it takes "bidder 5, round 12; then for each product in rank" its
 // line, and then what fills the last byte.
 fn take_card(card: &[u8], products: usize) -> CardRead
     requires { (products ≤ 8) × (length card.now ≡ card_length products) }
-    ensures { (result.card ≡ cond (filled card.now products) (Bid (field_at card.now 0 5) (field_at card.now 5 12)) (Refused 5)) × (result.lines ≡ read_lines card.now products) }
+    ensures { (result.card ≡ cond (filled card.now products) (Ok (bid_by (field_at card.now 0 5) (field_at card.now 5 12))) (Err Filling)) × (result.lines ≡ read_lines card.now products) }
 {
     let mut reader = Reader::new(card);
     let bidder = reader.take(BIDDER);
@@ -164,12 +170,12 @@ fn take_card(card: &[u8], products: usize) -> CardRead
     CardRead { card, lines }
 }
 
-// A refused read answers its number and an all-zero array.
-fn refused(number: u8) -> CardRead
-    ensures { result ≡ read_refused number }
+// A refused read answers why, beside an all-zero array.
+fn refused(why: Refusal) -> CardRead
+    ensures { result ≡ read_refused (number_of why) }
 {
     CardRead {
-        card: Card::Refused(number),
+        card: Err(why),
         lines: no_lines(),
     }
 }
@@ -180,18 +186,17 @@ pub fn read(card: &[u8], products: usize) -> CardRead
     ensures { result ≡ read_card card.now products }
 {
     if products < 1 {
-        return refused(29);
+        return refused(Refusal::ProductCount);
     }
     if products > 8 {
-        return refused(29);
+        return refused(Refusal::ProductCount);
     }
     if card.len() != length_for(products) {
-        return refused(4);
+        return refused(Refusal::CardLength);
     }
     let taken = take_card(card, products);
-    let found = taken.card;
-    let Card::Bid { .. } = found else {
-        return refused(5);
+    let Ok(_) = taken.card else {
+        return refused(Refusal::Filling);
     };
     taken
 }
@@ -234,11 +239,8 @@ fn put_lines(room: &mut [u8], lines: [Line; 8], products: usize)
     requires { (products ≤ 8) × (length room.old ≡ card_length products) }
     ensures { room.new ≡ put_lines room.old lines products }
 {
-    let mut i: usize = 0;
-    while i < products {
-        let line = lines[i];
-        put_line(room, LINES + LINE * i, line);
-        i += 1;
+    for i in 0..products {
+        put_line(room, LINES + LINE * i, lines[i]);
     }
 }
 
@@ -301,37 +303,37 @@ fn line_writable(products: usize, i: usize, line: Line) -> bool
 fn lines_writable(products: usize, lines: [Line; 8]) -> bool
     ensures { result ≡ all_up_to (line_writable products lines) 8 }
 {
-    let mut all = true;
-    let mut i: usize = 0;
-    while i < 8 {
-        all = all & line_writable(products, i, lines[i]);
-        i += 1;
-    }
-    all
+    (0..8usize).all(|i| line_writable(products, i, lines[i]))
 }
 
 // Writes a bid as a card, for a stated product count. Refused are 29 a count not 1 to 8, 4 room of a wrong length, and 30 a
 // field too large for its bits, or not 0 past the count; nothing is stored before the last of these tests has passed.
-pub fn write(room: &mut [u8], products: usize, bidder: u8, round: u16, lines: [Line; 8]) -> Answer
+pub fn write(
+    room: &mut [u8],
+    products: usize,
+    bidder: u8,
+    round: u16,
+    lines: [Line; 8],
+) -> Result<(), Refusal>
     ensures { (result ≡ (write_card room.old products bidder round lines).answer) × (room.new ≡ (write_card room.old products bidder round lines).bytes) }
 {
     if products < 1 {
-        return Answer::Refused(29);
+        return Err(Refusal::ProductCount);
     }
     if products > 8 {
-        return Answer::Refused(29);
+        return Err(Refusal::ProductCount);
     }
     if room.len() != length_for(products) {
-        return Answer::Refused(4);
+        return Err(Refusal::CardLength);
     }
     let fit = up_to(MOST_BIDDER).holds(bidder as u32)
         & (up_to(MOST_ROUND).holds(round as u32) & lines_writable(products, lines));
     if !fit {
-        return Answer::Refused(30);
+        return Err(Refusal::Field);
     }
     state::clear(room);
     put_field(room, 0, BIDDER, bidder as u32);
     put_field(room, BIDDER, ROUND, round as u32);
     put_lines(room, lines, products);
-    Answer::Done
+    Ok(())
 }

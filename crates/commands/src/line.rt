@@ -4,16 +4,23 @@ ghost use Rattle.std.specs.Prelude.{◌⊎◌, ◌≡◌};
 
 use asked::ends;
 use calls::{Made, make};
-use check::same;
 use layout::STATE;
 use looks::look;
 use names::{NAMES, Naming};
-use rules::{Count, Phase};
+use rules::Phase;
 use std::fs::File;
 use std::rt::Files;
 use store::{Act, Kind, Numbered, Undo, copy_before, keep, number_on, put_reason, save_names};
 use text::{ANSWER, Cursor, control_at, put, put_named, word, wrong_number};
 use view::put_form;
+
+// What is served: what the box's file is, where it lies, and the names that are given beside it.
+#[derive(Clone, Copy)]
+pub struct Desk<'a> {
+    pub kind: Kind,
+    pub path: &'a [u8],
+    pub names: [u8; NAMES],
+}
 
 // What comes after an answer.
 #[derive(Clone, Copy)]
@@ -21,8 +28,8 @@ pub enum Next {
     Goes,
     // It is a question, and the line is done only if it is answered by yes.
     Asks,
-    Bails,
-    Spares,
+    // Whether the run ends from now on at the first line that is not answered ok.
+    Bails(bool),
     Quits,
     // The box can be relied on no more.
     Breaks,
@@ -42,18 +49,11 @@ fn told(n: usize) -> Said {
     }
 }
 
-// The state for a call to work on.
-fn copy_of(state: &[u8; STATE]) -> [u8; STATE]
-    ensures { result ≡ state.now }
-{
-    *state
-}
-
 // ---- Questions
 
 fn ask_calculation(out: &mut [u8; ANSWER], state: &[u8; STATE]) -> usize {
     match console::count(state) {
-        Count::ToFile(n) => {
+        Ok(n) => {
             if n == 0 {
                 return 0;
             }
@@ -65,14 +65,13 @@ fn ask_calculation(out: &mut [u8; ANSWER], state: &[u8; STATE]) -> usize {
                 b"\n  a default bid will stand for each of them. Calculate all the same? (yes or no)\n",
             )
         }
-        Count::Refused(_) => 0,
+        Err(_) => 0,
     }
 }
 
 fn ask_return(out: &mut [u8; ANSWER], state: &[u8; STATE]) -> usize {
     match Phase::of(book::phase(state)) {
-        Phase::Issued => 0,
-        Phase::Closed => 0,
+        Phase::Issued | Phase::Closed => 0,
         Phase::Open => {
             let a = put_named(
                 out,
@@ -99,9 +98,7 @@ fn question(act: Act, out: &mut [u8; ANSWER], state: &[u8; STATE]) -> usize {
     match act {
         Act::Calculation => ask_calculation(out, state),
         Act::Return => ask_return(out, state),
-        Act::Plain => 0,
-        Act::Opening => 0,
-        Act::Undo => 0,
+        Act::Plain | Act::Opening | Act::Undo => 0,
     }
 }
 
@@ -113,8 +110,7 @@ fn settle<R: Files<File = File> + Numbered>(
     asks: bool,
     act: Act,
     n: usize,
-    kind: Kind,
-    path: &[u8],
+    desk: &Desk,
     given: &[u8],
     state: &mut [u8; STATE],
     work: [u8; STATE],
@@ -131,7 +127,7 @@ fn settle<R: Files<File = File> + Numbered>(
             };
         }
     }
-    let done = keep(rt, kind, path, act, given, n, state, work, out);
+    let done = keep(rt, desk.kind, desk.path, act, given, n, state, work, out);
     if done.ends {
         return Said {
             n: done.said,
@@ -143,13 +139,12 @@ fn settle<R: Files<File = File> + Numbered>(
 
 // What was put back is said after the answer's first line.
 fn undone(told: Said, out: &mut [u8; ANSWER], state: &[u8; STATE]) -> Said {
-    let next = told.next;
     if out[0] != b'o' {
-        return Said { n: told.n, next };
+        return told;
     }
     Said {
         n: view::put_back(out, told.n, state),
-        next,
+        ..told
     }
 }
 
@@ -158,8 +153,7 @@ fn undo<R: Files<File = File> + Numbered>(
     rt: &R,
     line: &[u8],
     c: Cursor,
-    kind: Kind,
-    path: &[u8],
+    desk: &Desk,
     state: &mut [u8; STATE],
     out: &mut [u8; ANSWER],
 ) -> Said {
@@ -167,7 +161,7 @@ fn undo<R: Files<File = File> + Numbered>(
     if more != 0 {
         return told(more);
     }
-    match kind {
+    match desk.kind {
         Kind::Filed => {}
         Kind::Loose => {
             return told(put(
@@ -176,10 +170,10 @@ fn undo<R: Files<File = File> + Numbered>(
                 b"error nothing to undo: a copy is kept beside a box file only\n",
             ));
         }
-        Kind::Wrong => return told(calls::other_length(kind, state, out)),
+        Kind::Wrong => return told(calls::other_length(desk.kind, state, out)),
     }
     let mut copy = [0u8; STATE];
-    match copy_before(rt, path, state, &mut copy) {
+    match copy_before(rt, desk.path, state, &mut copy) {
         Undo::Copy => {}
         Undo::Nothing => {
             return told(put(
@@ -197,18 +191,7 @@ fn undo<R: Files<File = File> + Numbered>(
         }
     }
     let n = put(out, 0, b"ok\n");
-    let told = settle(
-        rt,
-        false,
-        Act::Undo,
-        n,
-        kind,
-        path,
-        b"undo",
-        state,
-        copy,
-        out,
-    );
+    let told = settle(rt, false, Act::Undo, n, desk, b"undo", state, copy, out);
     undone(told, out, state)
 }
 
@@ -234,27 +217,18 @@ fn unnamed(kind: Kind, state: &[u8; STATE], out: &mut [u8; ANSWER]) -> usize {
     }
 }
 
-fn save_part<R: Files<File = File> + Numbered>(rt: &R, path: &[u8], bytes: &[u8], n: usize) -> i32 {
-    if n <= bytes.len() {
-        return save_names(rt, path, &bytes[0..n]);
-    }
-    save_names(rt, path, bytes)
-}
-
 // Beside a box file the names are kept: 0, or the system's number for what failed.
 fn keep_names<R: Files<File = File> + Numbered>(
     rt: &R,
-    kind: Kind,
-    path: &[u8],
+    desk: &Desk,
     names: &[u8; NAMES],
     out: &mut [u8; ANSWER],
 ) -> i32 {
-    match kind {
-        Kind::Loose => 0,
-        Kind::Wrong => 0,
+    match desk.kind {
+        Kind::Loose | Kind::Wrong => 0,
         Kind::Filed => {
             let n = names::put_file(out, names);
-            save_part(rt, path, out, n)
+            save_names(rt, desk.path, &out[..n.min(ANSWER)])
         }
     }
 }
@@ -274,18 +248,12 @@ fn put_given(given: Naming, out: &mut [u8; ANSWER]) -> usize {
     put_form(out, 0, b"ok\n  product %\n", &numbers)
 }
 
-fn copy_names(names: &[u8; NAMES]) -> [u8; NAMES] {
-    *names
-}
-
 // `name bidder B NAME`, `name product P NAME`: a name that cannot be kept is not given.
 fn name<R: Files<File = File> + Numbered>(
     rt: &R,
     line: &[u8],
     c: Cursor,
-    kind: Kind,
-    path: &[u8],
-    names: &mut [u8; NAMES],
+    desk: &mut Desk,
     state: &[u8; STATE],
     out: &mut [u8; ANSWER],
 ) -> usize {
@@ -293,11 +261,11 @@ fn name<R: Files<File = File> + Numbered>(
     if given.said != 0 {
         return given.said;
     }
-    let none = unnamed(kind, state, out);
+    let none = unnamed(desk.kind, state, out);
     if none != 0 {
         return none;
     }
-    let mut with = copy_names(names);
+    let mut with = desk.names;
     let wrong = names::take(
         line,
         given,
@@ -309,19 +277,18 @@ fn name<R: Files<File = File> + Numbered>(
     if wrong != 0 {
         return wrong;
     }
-    let why = keep_names(rt, kind, path, &with, out);
+    let why = keep_names(rt, desk, &with, out);
     if why != 0 {
         return not_kept(why, out);
     }
-    *names = with;
+    desk.names = with;
     put_given(given, out)
 }
 
 fn show_names(
     line: &[u8],
     c: Cursor,
-    kind: Kind,
-    names: &[u8; NAMES],
+    desk: &Desk,
     state: &[u8; STATE],
     out: &mut [u8; ANSWER],
 ) -> usize {
@@ -329,11 +296,11 @@ fn show_names(
     if more != 0 {
         return more;
     }
-    let none = unnamed(kind, state, out);
+    let none = unnamed(desk.kind, state, out);
     if none != 0 {
         return none;
     }
-    names::show(out, names)
+    names::show(out, &desk.names)
 }
 
 // ---- Commands
@@ -354,26 +321,18 @@ fn bail(line: &[u8], c: Cursor, out: &mut [u8; ANSWER]) -> Said {
     let span = word(line, c);
     let a = span.from;
     let e = span.to;
-    let is_on = same(&line[a..e], b"on");
-    if !is_on {
-        if !same(&line[a..e], b"off") {
-            return told(text::wrong(out, b"bail is on or off", a));
-        }
-    }
+    let bails = match &line[a..e] {
+        b"on" => true,
+        b"off" => false,
+        _ => return told(text::wrong(out, b"bail is on or off", a)),
+    };
     let more = ends(line, Cursor { at: e }, out);
     if more != 0 {
         return told(more);
     }
-    let n = put(out, 0, b"ok\n");
-    if is_on {
-        return Said {
-            n,
-            next: Next::Bails,
-        };
-    }
     Said {
-        n,
-        next: Next::Spares,
+        n: put(out, 0, b"ok\n"),
+        next: Next::Bails(bails),
     }
 }
 
@@ -384,33 +343,20 @@ fn without_call<R: Files<File = File> + Numbered>(
     at: usize,
     line: &[u8],
     c: Cursor,
-    kind: Kind,
-    path: &[u8],
-    names: &mut [u8; NAMES],
+    desk: &mut Desk,
     state: &mut [u8; STATE],
     out: &mut [u8; ANSWER],
 ) -> Said
     ensures { Left w.now state.old state.new }
 {
-    if same(w, b"undo") {
-        return undo(rt, line, c, kind, path, state, out);
+    match w {
+        b"undo" => undo(rt, line, c, desk, state, out),
+        b"name" => told(name(rt, line, c, desk, state, out)),
+        b"names" => told(show_names(line, c, desk, state, out)),
+        b"bail" => bail(line, c, out),
+        b"quit" | b"exit" => quit(line, c, out),
+        _ => told(look(w, at, line, c, desk.kind, state, out)),
     }
-    if same(w, b"name") {
-        return told(name(rt, line, c, kind, path, names, state, out));
-    }
-    if same(w, b"names") {
-        return told(show_names(line, c, kind, names, state, out));
-    }
-    if same(w, b"bail") {
-        return bail(line, c, out);
-    }
-    if same(w, b"quit") {
-        return quit(line, c, out);
-    }
-    if same(w, b"exit") {
-        return quit(line, c, out);
-    }
-    told(look(w, at, line, c, kind, state, out))
 }
 
 // A command: its word, the place of that, and what was given from the word on.
@@ -422,31 +368,22 @@ fn command<R: Files<File = File> + Numbered>(
     line: &[u8],
     c: Cursor,
     asks: bool,
-    kind: Kind,
-    path: &[u8],
-    names: &mut [u8; NAMES],
+    desk: &mut Desk,
     state: &mut [u8; STATE],
     out: &mut [u8; ANSWER],
 ) -> Said
     ensures { Left w.now state.old state.new }
 {
-    let mut work = copy_of(state);
-    match make(w, line, c, kind, &mut work, out) {
+    let mut work = *state;
+    match make(w, line, c, desk.kind, &mut work, out) {
         Made::Done(act, n) => {
-            let told = settle(rt, asks, act, n, kind, path, given, state, work, out);
-            forget(names, state);
+            let told = settle(rt, asks, act, n, desk, given, state, work, out);
+            forget(&mut desk.names, state);
             told
         }
         Made::Said(n) => told(n),
-        Made::Other => without_call(rt, w, at, line, c, kind, path, names, state, out),
+        Made::Other => without_call(rt, w, at, line, c, desk, state, out),
     }
-}
-
-fn byte_at(line: &[u8], i: usize) -> u8 {
-    if i < line.len() {
-        return line[i];
-    }
-    0
 }
 
 // Answers a line. Nothing is said to an empty one, or to one that begins with #.
@@ -454,9 +391,7 @@ pub fn answer<R: Files<File = File> + Numbered>(
     rt: &R,
     line: &[u8],
     asks: bool,
-    kind: Kind,
-    path: &[u8],
-    names: &mut [u8; NAMES],
+    desk: &mut Desk,
     state: &mut [u8; STATE],
     out: &mut [u8; ANSWER],
 ) -> Said
@@ -476,7 +411,7 @@ pub fn answer<R: Files<File = File> + Numbered>(
         return told(wrong_number(
             out,
             b"a control character, byte ",
-            byte_at(line, bad) as u64,
+            line[bad] as u64,
             b"",
             bad,
         ));
@@ -489,9 +424,7 @@ pub fn answer<R: Files<File = File> + Numbered>(
         line,
         Cursor { at: e },
         asks,
-        kind,
-        path,
-        names,
+        desk,
         state,
         out,
     )

@@ -1,10 +1,8 @@
 // The whole program: its options, the box that it names, and what is done with it.
-ghost use Rattle.std.specs.Prelude.{◌≤◌, length};
-
 use crate::host::Host;
+use crate::line::Desk;
 use crate::shell::{Manner, serve, tell};
 use audit::{Found, UNUSABLE, check, find, inspect, say, say_unread};
-use check::same;
 use layout::STATE;
 use names::{NAMES, put_names};
 use rules::Phase;
@@ -53,55 +51,23 @@ fn put_auction(out: &mut [u8; ANSWER], at: usize, state: &[u8; STATE]) -> usize 
 // `desk: BOX: `, and what it is, to the person at the desk.
 fn tell_box(
     rt: &impl Aside,
-    path: &[u8],
+    desk: &Desk,
     is_new: bool,
-    kind: Kind,
-    names: &[u8; NAMES],
     state: &[u8; STATE],
     out: &mut [u8; ANSWER],
 ) {
     let a = put(out, 0, b"desk: ");
-    let b = put(out, a, path);
+    let b = put(out, a, desk.path);
     let c = put(out, b, b": ");
     let d = if is_new {
         put(out, c, b"no such file: a new box")
     } else {
-        put_box(out, c, kind, state)
+        put_box(out, c, desk.kind, state)
     };
     let n = put(out, d, b"\n");
     let mut shown = io::large_buffer();
-    let k = put_names(&mut shown, out, 0, n, names);
+    let k = put_names(&mut shown, out, 0, n, &desk.names);
     tell(rt, &shown, k);
-}
-
-fn take_first(
-    room: &[u8],
-    n: usize,
-    names: &mut [u8; NAMES],
-    state: &[u8; STATE],
-    out: &mut [u8; ANSWER],
-) -> u64 {
-    if n <= room.len() {
-        return names::take_file(
-            &room[0..n],
-            book::bidders(state),
-            book::products(state),
-            names,
-            out,
-        );
-    }
-    0
-}
-
-// The first n bytes that were read.
-fn take_part(
-    room: &[u8; ANSWER],
-    n: usize,
-    names: &mut [u8; NAMES],
-    state: &[u8; STATE],
-    out: &mut [u8; ANSWER],
-) -> u64 {
-    take_first(room, n, names, state, out)
 }
 
 // The names that are kept beside a box whose auction stands. Of any other box, such as one whose return was cut off, they go.
@@ -112,11 +78,13 @@ fn names_beside<R: Files + Aside>(
     out: &mut [u8; ANSWER],
 ) -> [u8; NAMES] {
     let mut names = names::none();
-    if number_on(Kind::Filed, state) != 0 {
-        if number_on(Kind::Filed, state) == 3 {
+    match number_on(Kind::Filed, state) {
+        0 => {}
+        3 => {
             drop_names(rt, path);
+            return names;
         }
-        return names;
+        _ => return names,
     }
     let mut room = io::large_buffer();
     match load_names(rt, path, &mut room) {
@@ -125,7 +93,13 @@ fn names_beside<R: Files + Aside>(
             names
         }
         Filled::Bytes(n) => {
-            let line = take_part(&room, n, &mut names, state, out);
+            let line = names::take_file(
+                &room[..n.min(ANSWER)],
+                book::bidders(state),
+                book::products(state),
+                &mut names,
+                out,
+            );
             if line != 0 {
                 let a = put_named(out, 0, b"desk: the names beside the box: line ", line);
                 let b = put(out, a, b" gives none and is passed over\n");
@@ -140,66 +114,68 @@ fn names_beside<R: Files + Aside>(
 fn serve_box(rt: &impl Host, manner: Manner, path: &[u8]) -> u8 {
     let mut state = [0u8; STATE];
     let mut out = io::large_buffer();
-    match find(rt, path, &mut state, &mut out) {
-        Found::State => {
-            let names = names_beside(rt, path, &state, &mut out);
-            tell_box(rt, path, false, Kind::Filed, &names, &state, &mut out);
-            serve(rt, manner, Kind::Filed, path, names, &mut state)
-        }
-        Found::Missing => {
-            let names = names_beside(rt, path, &state, &mut out);
-            tell_box(rt, path, true, Kind::Filed, &names, &state, &mut out);
-            serve(rt, manner, Kind::Filed, path, names, &mut state)
-        }
-        Found::Wrong => {
-            let names = names::none();
-            tell_box(rt, path, false, Kind::Wrong, &names, &state, &mut out);
-            serve(rt, manner, Kind::Wrong, path, names, &mut state)
-        }
-        Found::Said => UNUSABLE,
-    }
+    let found = match find(rt, path, &mut state, &mut out) {
+        Ok(found) => found,
+        Err(status) => return status,
+    };
+    let desk = match found {
+        Found::State | Found::Missing => Desk {
+            kind: Kind::Filed,
+            path,
+            names: names_beside(rt, path, &state, &mut out),
+        },
+        Found::Wrong => Desk {
+            kind: Kind::Wrong,
+            path,
+            names: names::none(),
+        },
+    };
+    let is_new = matches!(found, Found::Missing);
+    tell_box(rt, &desk, is_new, &state, &mut out);
+    serve(rt, manner, desk, &mut state)
 }
 
 // ---- The options
 
 // What is to be done with the box.
-const SERVE: u8 = 0;
+#[derive(Clone, Copy)]
+enum Task {
+    Serve,
+    Check,
+    Returned,
+}
 
-const CHECK: u8 = 1;
-
-const RETURNED: u8 = 2;
-
-// What was asked for, and which arguments name the box and, for a check, a journal; 0 where none does.
+// What was asked for, and which arguments name the box and, for a check, a journal.
 #[derive(Clone, Copy)]
 struct Options {
-    task: u8,
+    task: Task,
     tells: bool,
     echoes: bool,
     bails: bool,
     wrong: bool,
-    boxed: usize,
-    journal: usize,
+    boxed: Option<usize>,
+    journal: Option<usize>,
 }
 
 fn nothing_asked() -> Options {
     Options {
-        task: SERVE,
+        task: Task::Serve,
         tells: false,
         echoes: false,
         bails: false,
         wrong: false,
-        boxed: 0,
-        journal: 0,
+        boxed: None,
+        journal: None,
     }
 }
 
 // An argument that is no option names the box, and after it a journal.
 fn with_name(o: Options, i: usize) -> Options {
     let mut with = o;
-    if o.boxed == 0 {
-        with.boxed = i;
-    } else if o.journal == 0 {
-        with.journal = i;
+    if o.boxed.is_none() {
+        with.boxed = Some(i);
+    } else if o.journal.is_none() {
+        with.journal = Some(i);
     } else {
         with.wrong = true;
     }
@@ -207,33 +183,24 @@ fn with_name(o: Options, i: usize) -> Options {
 }
 
 fn with_argument(o: Options, i: usize, argument: &[u8]) -> Options {
+    if !argument.starts_with(b"-") {
+        return with_name(o, i);
+    }
     let mut with = o;
-    if argument.len() == 0 {
-        return with_name(o, i);
-    }
-    if argument[0] != b'-' {
-        return with_name(o, i);
-    }
-    if same(argument, b"--bail") {
-        with.bails = true;
-    } else if same(argument, b"--echo") {
-        with.echoes = true;
-    } else if same(argument, b"--tell") {
-        with.tells = true;
-    } else if same(argument, b"--check") {
-        with.task = CHECK;
-    } else if same(argument, b"--returned") {
-        with.task = RETURNED;
-    } else {
-        with.wrong = true;
+    match argument {
+        b"--bail" => with.bails = true,
+        b"--echo" => with.echoes = true,
+        b"--tell" => with.tells = true,
+        b"--check" => with.task = Task::Check,
+        b"--returned" => with.task = Task::Returned,
+        _ => with.wrong = true,
     }
     with
 }
 
 fn options_given(rt: &impl Env) -> Options {
     let mut o = nothing_asked();
-    let mut i = 1;
-    while i < 10 {
+    for i in 1..10 {
         let mut room = io::buffer();
         let n = match rt.arg(i, &mut room) {
             Ok(n) => n,
@@ -241,23 +208,12 @@ fn options_given(rt: &impl Env) -> Options {
             Err(FillError::NotPresent) => return o,
         };
         o = with_argument(o, i, &room[..n]);
-        i += 1;
     }
     o.wrong = true;
     o
 }
 
 // ---- The program
-
-// An argument at the start of the room: its length, or 0 where it is longer than the room.
-fn argument(rt: &impl Env, i: usize, room: &mut [u8]) -> usize
-    ensures { result ≤ length room.new }
-{
-    match rt.arg(i, room) {
-        Ok(n) => n,
-        Err(_) => 0,
-    }
-}
 
 fn serve_named(rt: &impl Host, o: Options) -> u8 {
     let manner = Manner {
@@ -266,11 +222,11 @@ fn serve_named(rt: &impl Host, o: Options) -> u8 {
         asks: rt.is_typed(),
     };
     let mut out = io::large_buffer();
-    if o.journal != 0 {
+    if o.journal.is_some() {
         say(rt, &mut out, b"error one box at most can be named\n");
         return UNUSABLE;
     }
-    if o.boxed == 0 {
+    let Some(boxed) = o.boxed else {
         if manner.asks {
             text::warn(
                 rt,
@@ -278,10 +234,15 @@ fn serve_named(rt: &impl Host, o: Options) -> u8 {
             );
         }
         let mut state = [0u8; STATE];
-        return serve(rt, manner, Kind::Loose, b"", names::none(), &mut state);
-    }
+        let desk = Desk {
+            kind: Kind::Loose,
+            path: b"",
+            names: names::none(),
+        };
+        return serve(rt, manner, desk, &mut state);
+    };
     let mut path = io::buffer();
-    let n = match rt.arg(o.boxed, &mut path) {
+    let n = match rt.arg(boxed, &mut path) {
         Ok(n) => n,
         Err(FillError::TooLong) => return say_unread(rt, &mut out, ENAMETOOLONG),
         Err(FillError::NotPresent) => return say_unread(rt, &mut out, EINVAL),
@@ -293,20 +254,21 @@ fn serve_named(rt: &impl Host, o: Options) -> u8 {
     serve_box(rt, manner, &path[..n])
 }
 
-fn check_named(rt: &impl Host, o: Options) -> u8 {
+// An argument that is longer than the room counts as an empty one.
+fn check_named(rt: &impl Host, boxed: usize, journal: Option<usize>) -> u8 {
     let mut path = io::buffer();
-    let n = argument(rt, o.boxed, &mut path);
-    let mut journal = io::buffer();
-    if o.journal == 0 {
+    let n = rt.arg(boxed, &mut path).unwrap_or(0);
+    let Some(journal) = journal else {
         return check(rt, &path[..n], b"");
-    }
-    let j = argument(rt, o.journal, &mut journal);
-    check(rt, &path[..n], &journal[..j])
+    };
+    let mut named = io::buffer();
+    let j = rt.arg(journal, &mut named).unwrap_or(0);
+    check(rt, &path[..n], &named[..j])
 }
 
-fn inspect_named(rt: &impl Host, o: Options) -> u8 {
+fn inspect_named(rt: &impl Host, boxed: usize) -> u8 {
     let mut path = io::buffer();
-    let n = argument(rt, o.boxed, &mut path);
+    let n = rt.arg(boxed, &mut path).unwrap_or(0);
     inspect(rt, &path[..n])
 }
 
@@ -320,17 +282,15 @@ fn done(rt: &impl Host, o: Options) -> u8 {
         );
         return UNUSABLE;
     }
-    if o.task == SERVE {
-        return serve_named(rt, o);
+    match (o.task, o.boxed) {
+        (Task::Serve, _) => serve_named(rt, o),
+        (_, None) => {
+            say(rt, &mut out, b"error which box? its name is missing\n");
+            UNUSABLE
+        }
+        (Task::Check, Some(boxed)) => check_named(rt, boxed, o.journal),
+        (Task::Returned, Some(boxed)) => inspect_named(rt, boxed),
     }
-    if o.boxed == 0 {
-        say(rt, &mut out, b"error which box? its name is missing\n");
-        return UNUSABLE;
-    }
-    if o.task == CHECK {
-        return check_named(rt, o);
-    }
-    inspect_named(rt, o)
 }
 
 pub fn run(rt: &impl Host) {

@@ -1,28 +1,29 @@
--- A call's number as its answer and its bytes. Assumes nothing.
-use mathlib.Core.Path.{◌≡◌, refl}
+-- A call's answer and its bytes, by its number. Assumes nothing.
+use mathlib.Core.Path.{◌≡◌, refl, ap}
 use mathlib.Core.Bool.{cond}
 use mathlib.Core.List.{List}
 use Prim.Native.Nat.{ℕ, zero, suc}
+use native.Mathlib.Omega.{arith}
 use borrow.Author.Tests.{ne_eqb}
 use lib.Dec.{eqb}
-use Rattle.rules.specs.declared.Answer.TheVariants.{Done, Refused}
-use Rattle.rules.specs.Answers.{Leaves, answer_from, unless_refused}
-
-number_said : (n : ℕ) → (n ≡ 0 → ⊥) → Refused n ≡ answer_from n
-number_said zero h = absurd (h refl)
-number_said (suc n) h = refl
+use Rattle.std.specs.Prelude.{Ok, Err, is_ok}
+use Rattle.rules.specs.declared.Refusal.{Refusal}
+use Rattle.rules.specs.Answers.{Leaves, refusal_of, answer_from, unless_refused}
+use Rattle.rules.proofs.Numbered.{rejected, why}
+use Rattle.rules.proofs.Lists.{clash}
 
 -- "Every refusal returns its number only and writes nothing."
-pub refuses : (n k : ℕ) (new old : List ℕ) → n ≡ k → (n ≡ 0 → ⊥) → Leaves (unless_refused k new old) (Refused n) old
-refuses n k new old e h = rw (← e, ne_eqb n 0 h) (number_said n h, refl)
+pub refuses : (n : ℕ) (new old : List ℕ) {e : Refusal} → Err e ≡ answer_from n → Leaves (unless_refused n new old) (Err e) old
+refuses n new old h = (h, rw (ne_eqb n 0 (rejected tt n h)) refl)
 
 -- 0 is done
-pub does : (n k : ℕ) (new old s : List ℕ) → n ≡ k → n ≡ 0 → s ≡ new → Leaves (unless_refused k new old) Done s
-does n k new old s e z h = rw (← e, z) (refl, h)
+pub does : (n : ℕ) (new old s : List ℕ) → n ≡ 0 → s ≡ new → Leaves (unless_refused n new old) (Ok tt) s
+does n new old s z h = rw z (refl, h)
 
--- an answer of its own, or the number
-pub refuses_with : {A : Type 0} (n k : ℕ) (done : A) (say : ℕ → A) → n ≡ k → (n ≡ 0 → ⊥) → say n ≡ cond (eqb k 0) done (say k)
-refuses_with n k done say e h = rw (← e, ne_eqb n 0 h)
+-- an answer of its own, or why there is none
+pub refuses_with : {A : Type 0} (n : ℕ) (done : A) (say : Refusal → A) {e : Refusal} → Err e ≡ answer_from n → say e ≡ cond (eqb n 0) done (say (refusal_of n))
+refuses_with zero done say h = clash (ap is_ok h) refl
+refuses_with (suc n) done say h = rw (ne_eqb (suc n) 0 (omega arith)) (ap say (ap why h))
 
-pub answers_with : {A : Type 0} (n k : ℕ) (done : A) (say : ℕ → A) (a : A) → n ≡ k → n ≡ 0 → a ≡ done → a ≡ cond (eqb k 0) done (say k)
-answers_with n k done say a e z h = rw (← e, z) h
+pub answers_with : {A : Type 0} (n : ℕ) (done : A) (say : Refusal → A) (a : A) → n ≡ 0 → a ≡ done → a ≡ cond (eqb n 0) done (say (refusal_of n))
+answers_with n done say a z h = rw z h

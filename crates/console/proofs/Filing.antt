@@ -4,32 +4,28 @@ use mathlib.Core.Bool.{cond}
 use mathlib.Core.List.{List}
 use Prim.Native.Nat.{ℕ}
 use borrow.Author.Tests.{eq-eqb, ne_eqb}
-use Rattle.rules.specs.declared.Answer.TheVariants.{Done, Refused}
-use Rattle.rules.specs.Answers.{Leaves}
+use lib.Dec.{eqb}
+use Rattle.std.specs.Prelude.{Err}
+use Rattle.rules.specs.declared.Refusal.{Refusal}
+use Rattle.rules.specs.Answers.{Leaves, Answer, answer_from}
 use Rattle.rules.specs.Layout.{loaded, stored}
 use Rattle.rules.specs.Calls.{card_number, file_number, after_card, file_call}
+use Rattle.rules.proofs.Numbered.{rejected, passed_on}
 use Rattle.filing.specs.Filing.{Files}
 use Rattle.numbers.specs.State.{state_number}
 use Rattle.numbers.proofs.StateLaws.{Stood, not_standing, said}
-use Rattle.console.proofs.Answering.{refuses, does}
+use Rattle.console.proofs.Answering.{refuses}
 
 module _ (s c : List ℕ) where
-  pub state_refused : (n : ℕ) → n ≡ state_number s → (n ≡ 0 → ⊥) → Leaves (file_call s c) (Refused n) s
+  pub state_refused : {e : Refusal} → Err e ≡ answer_from (state_number s) → Leaves (file_call s c) (Err e) s
   unfolding file_call
-  state_refused n e h = refuses n (file_number s c) _ s (not_standing s n 3 (card_number c) e h (λ z. refl)) h
+  state_refused h =
+      refuses (file_number s c) _ s
+      (passed_on tt tt _ _ h (not_standing s 3 (card_number c) (rejected tt _ h) (λ z. refl)))
 
-  module _ (S : Stood s) (k : ℕ) (z : List ℕ) (F : Files s c k z) where
-    is_number : k ≡ file_number s c
-    is_number = said s S 3 (card_number c) k F.number
-
-    pub card_refused : (k ≡ 0 → ⊥) → Leaves (file_call s c) (Refused k) z
+  module _ (S : Stood s) where
+    pub card_answered : (r : Answer) (z : List ℕ) → Files s c r z → Leaves (file_call s c) r z
     unfolding file_call
-    card_refused h =
-        let e : z ≡ s = F.bytes ∙ ap (λ t. cond t (stored (after_card c (loaded s))) s) (ne_eqb _ 0 (λ e. h (F.number ∙ e))) in
-        rw e (refuses k (file_number s c) (stored (after_card c (loaded s))) s is_number h)
-
-    pub card_filed : k ≡ 0 → Leaves (file_call s c) Done z
-    unfolding file_call
-    card_filed h =
-        does k (file_number s c) _ s z is_number h
-        (F.bytes ∙ ap (λ t. cond t (stored (after_card c (loaded s))) s) (eq-eqb _ 0 (sym F.number ∙ h)))
+    card_answered r z F =
+        let e : card_number c (loaded s) ≡ file_number s c = said s S 3 (card_number c) _ refl in
+        (F.answer ∙ ap answer_from e, F.bytes ∙ ap (λ n. cond (eqb n 0) (stored (after_card c (loaded s))) s) e)

@@ -3,145 +3,113 @@
 // contract; any two outcomes that have it coincide (rules/Settling: leaves-one, gives-one).
 #![tactic(auto)]
 
-ghost use Rattle.std.specs.Prelude.{◌≡◌};
-ghost use Rattle.rules.specs.declared.Calculation.TheVariants as calculation;
 ghost use Rattle.rules.specs.Answers.{Leaves, Gives};
 ghost use Rattle.rules.specs.Calls.{open_call, file_call, count_call, calculate_call, plain_call, cutback_call, report_call, result_call, return_call, read_call, write_call, suggested_call};
 
 use layout::STATE;
-use round::Tally;
 use rules::{
-    Answer, Awarded, Calculation, CardRead, Chosen, Count, Line, Reported, Settings, Tranches,
-    Volume,
+    Awarded, BasisPoints, Calculation, CardRead, Line, Refusal, Reported, Settings, Tranches,
 };
 
 // Open an auction: 1, 17, 15.
-pub fn open(s: &mut [u8], given: Settings) -> Answer
+pub fn open(s: &mut [u8], given: Settings) -> Result<(), Refusal>
     ensures { Leaves (open_call s.old given) result s.new }
 {
     if s.len() != STATE {
-        return Answer::Refused(1);
+        return Err(Refusal::StateLength);
     }
     if !state::is_zero(s) {
-        return Answer::Refused(17);
+        return Err(Refusal::NotIssued);
     }
     if !settings::settings_fit(given) {
-        return Answer::Refused(15);
+        return Err(Refusal::Setting);
     }
     storing::opened(s, settings::setup_of(given));
-    Answer::Done
+    Ok(())
 }
 
 // File a bid card: 1, 2, 3, 4, 5, 6 to 13.
-pub fn file(s: &mut [u8], card: &[u8]) -> Answer
+pub fn file(s: &mut [u8], card: &[u8]) -> Result<(), Refusal>
     ensures { Leaves (file_call s.old card.now) result s.new }
 {
-    let n = numbers::state_number(s);
-    if n != 0 {
-        return Answer::Refused(n);
-    }
-    let k = filing::file_card(s, card);
-    if k != 0 {
-        return Answer::Refused(k);
-    }
-    Answer::Done
+    numbers::state_number(s)?;
+    filing::file_card(s, card)
 }
 
 // Count the bidders still to file: 1, 2, 3.
-pub fn count(s: &[u8]) -> Count
+pub fn count(s: &[u8]) -> Result<u32, Refusal>
     ensures { Gives (count_call s.now) result }
 {
-    let n = numbers::count_number(s);
-    if n != 0 {
-        return Count::Refused(n);
-    }
-    let still = book::bidders(s) as u32 - u32::count_ones(book::filed(s));
-    Count::ToFile(still)
-}
-
-// "The calculation answers the count of tranches kept in step 2 and outbid in step 4."
-fn counted(done: Tally) -> Calculation
-    ensures { result ≡ calculation.Done done.kept done.outbid }
-{
-    Calculation::Done {
-        kept: done.kept,
-        outbid: done.outbid,
-    }
+    numbers::count_number(s)?;
+    Ok(book::bidders(s) as u32 - u32::count_ones(book::filed(s)))
 }
 
 // Calculate a round, with one optional override a product: 1, 2, 3, 14, 19.
-pub fn calculate(s: &mut [u8], draw: &[u8], overrides: [Chosen; 8]) -> Calculation
+pub fn calculate(
+    s: &mut [u8],
+    draw: &[u8],
+    overrides: [Option<BasisPoints>; 8],
+) -> Result<Calculation, Refusal>
     ensures { Leaves (calculate_call s.old draw.now overrides) result s.new }
 {
-    let n = numbers::calculate_number(s, draw, overrides);
-    if n != 0 {
-        return Calculation::Refused(n);
-    }
+    numbers::calculate_number(s, draw, overrides)?;
     let done = round::calculate(s, draw, overrides);
-    counted(done)
+    Ok(done)
 }
 
 // Calculate a round whose step 2 goes by an order of the products, not by rank: 1, 2, 3, 14, 19, 23.
 pub fn calculate_plain(
     s: &mut [u8],
     draw: &[u8],
-    overrides: [Chosen; 8],
+    overrides: [Option<BasisPoints>; 8],
     order: &[u8],
-) -> Calculation
+) -> Result<Calculation, Refusal>
     ensures { Leaves (plain_call s.old draw.now overrides order.now) result s.new }
 {
-    let n = numbers::plain_number(s, draw, overrides, order);
-    if n != 0 {
-        return Calculation::Refused(n);
-    }
+    numbers::plain_number(s, draw, overrides, order)?;
     let done = round::calculate_plain(s, draw, overrides, order);
-    counted(done)
+    Ok(done)
 }
 
 // Cut the volume back after round 1: 1, 2, 3, 20.
-pub fn cutback(s: &mut [u8], targets: [Tranches; 8], caps: [Tranches; 8]) -> Answer
+pub fn cutback(s: &mut [u8], targets: [Tranches; 8], caps: [Tranches; 8]) -> Result<(), Refusal>
     ensures { Leaves (cutback_call s.old targets caps) result s.new }
 {
-    let n = numbers::cutback_number(s, targets, caps);
-    if n != 0 {
-        return Answer::Refused(n);
-    }
+    numbers::cutback_number(s, targets, caps)?;
     cutback::cut_back(s, targets, caps);
-    Answer::Done
+    Ok(())
 }
 
 // Report to one bidder: 1, 2, 3 (issued), 6, 18.
 pub fn report(s: &[u8], bidder: u8) -> Reported
     ensures { Gives (report_call s.now bidder) result }
 {
-    let n = numbers::report_number(s, bidder);
-    if n != 0 {
-        return reports::refused_report(n);
+    match numbers::report_number(s, bidder) {
+        Ok(()) => reports::report_on(s, bidder as usize),
+        Err(why) => reports::refused_report(why),
     }
-    reports::report_on(s, bidder as usize)
 }
 
 // Give the result: 1, 2, 16.
 pub fn result(s: &[u8]) -> Awarded
     ensures { Gives (result_call s.now) result }
 {
-    let n = numbers::result_number(s);
-    if n != 0 {
-        return reports::refused_result(n);
+    match numbers::result_number(s) {
+        Ok(()) => reports::result_of(s),
+        Err(why) => reports::refused_result(why),
     }
-    reports::result_of(s)
 }
 
 // Return the box: 1; any state of the right length is left all zero, as first issued.
-pub fn return_box(s: &mut [u8]) -> Answer
+pub fn return_box(s: &mut [u8]) -> Result<(), Refusal>
     ensures { Leaves (return_call s.old) result s.new }
 {
     let long = s.len();
     if long != STATE {
-        return Answer::Refused(1);
+        return Err(Refusal::StateLength);
     }
     state::clear(s);
-    Answer::Done
+    Ok(())
 }
 
 // Apart from any auction, read a card to a bid: 29, 4, 5.
@@ -152,14 +120,20 @@ pub fn read(card: &[u8], products: usize) -> CardRead
 }
 
 // Apart from any auction, write a bid as a card: 29, 4, 30.
-pub fn write(room: &mut [u8], products: usize, bidder: u8, round: u16, lines: [Line; 8]) -> Answer
+pub fn write(
+    room: &mut [u8],
+    products: usize,
+    bidder: u8,
+    round: u16,
+    lines: [Line; 8],
+) -> Result<(), Refusal>
     ensures { Leaves (write_call room.old products bidder round lines) result room.new }
 {
     card::write(room, products, bidder, round, lines)
 }
 
 // Apart from any auction, suggest a volume: 31.
-pub fn suggested_volume(bid: u32, ratio: u32) -> Volume
+pub fn suggested_volume(bid: u32, ratio: u32) -> Result<u32, Refusal>
     ensures { Gives (suggested_call bid ratio) result }
 {
     cutback::suggested_volume(bid, ratio)

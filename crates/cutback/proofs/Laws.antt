@@ -7,9 +7,9 @@ use native.Mathlib.Omega.{arith}
 use borrow.Author.Tests.{le-leb, le-ltb, leb-true, leb-false, eqb-true, ne_eqb}
 use lib.Dec.{leb, ltb, eqb}
 use lib.ListN.{replicate, get_or-replicate}
+use Rattle.std.specs.Prelude.{None}
 use Rattle.rules.specs.declared.Tranches.{Tranches}
 use Rattle.rules.specs.declared.Place.{Place}
-use Rattle.rules.specs.declared.Override.TheVariants as override
 use Rattle.rules.specs.declared.Setup.{Setup}
 use Rattle.rules.specs.declared.Auction.{Auction}
 use Rattle.rules.specs.Count.{sum_up_to, all_up_to, list_of}
@@ -38,7 +38,7 @@ use Rattle.prices.specs.declared.Lanes.{Lanes}
 use Rattle.prices.specs.declared.Outlook.{Outlook}
 use Rattle.prices.specs.Outlook.{Foresees, Listed, Shows}
 use Rattle.prices.proofs.Laws.{stops_of, price_of_lem, before_of}
-use Rattle.cutback.specs.Cuttable.{fits_after, limited_to, Cuttable, Cutting}
+use Rattle.cutback.specs.Cuttable.{fits_after, last_of, limited_to, Cuttable, Cutting}
 
 -- ---- the numbers
 
@@ -62,11 +62,6 @@ limits_are t target cap last p =
     rw (leb_min target (target_of t p) last, leb_min cap (cap_of t p) target)
     (regroup (leb 1 target) (leb target (target_of t p)) (leb target last) (leb 1 cap) (leb cap (cap_of t p)) (leb cap target))
 
--- the target before product p; the first has none
-unfoldable pub last_of : List Tranches → ℕ → ℕ
-last_of targets zero = 65535
-last_of targets (suc p) = given_for targets p
-
 module _ (t : Setup) (targets caps : List Tranches) where
   abbrev fits_by : ℕ → Bool → Bool
   fits_by p ranked =
@@ -75,14 +70,17 @@ module _ (t : Setup) (targets caps : List Tranches) where
       && ((leb 1 (given_for targets p) && leb 1 (given_for caps p)) && (ranked && leb (given_for caps p) (given_for targets p))))
       (eqb (given_for targets p) 0 && eqb (given_for caps p) 0)
 
-  pub fits_is : (p last : ℕ) → given_for targets p ≤ 65535 → last ≡ last_of targets p
+  fits_by_last : (p last : ℕ) → given_for targets p ≤ 65535 → last ≡ last_of targets p
       → fits_after t (given_for targets p) (given_for caps p) last p ≡ numbers_fit t targets caps p
-  unfolding last_of
-  fits_is zero last h e = ap (fits_by 0) (le-leb (given_for targets 0) last (omega arith))
-  fits_is (suc p) last h e =
-      let k : suc p - 1 ≡ p = omega arith in
-      ap (λ x. fits_by (suc p) (leb (given_for targets (suc p)) x)) e
-      ∙ sym (ap₂ (λ q k. fits_by (suc p) (cond q true (leb (given_for targets (suc p)) (given_for targets k)))) (ne_eqb (suc p) 0 (λ z. omega arith)) k)
+  fits_by_last zero last h e = ap (fits_by 0) (le-leb (given_for targets 0) last (omega arith))
+  fits_by_last (suc p) last h e =
+      let n = ne_eqb (suc p) 0 (λ z. omega arith) in
+      ap (λ x. fits_by (suc p) (leb (given_for targets (suc p)) x)) (e ∙ ap (λ q. cond q 65535 (given_for targets (suc p - 1))) n)
+      ∙ sym (ap (λ q. fits_by (suc p) (cond q true (leb (given_for targets (suc p)) (given_for targets (suc p - 1))))) n)
+
+  pub fits_is : (p last : ℕ) {b : Bool} → given_for targets p ≤ 65535 → last ≡ last_of targets p
+      → b ≡ fits_after t (given_for targets p) (given_for caps p) last p → b ≡ numbers_fit t targets caps p
+  fits_is p last h e f = f ∙ fits_by_last p last h e
 
   -- past the products in use the targets are 0
   sum_rest : (n : ℕ) → t.terms.products ≤ n → ((p : ℕ) → t.terms.products ≤ p → p < n → given_for targets p ≡ 0)
@@ -204,8 +202,8 @@ module _ (a : Auction) (targets caps : List Tranches) where
             (λ p h. ap₂ (priced (lane_at limits p)) (L.price p h) (L.price p h)) in
             (λ i. auction stopped a.round a.terms (ls i) (seats_is i) a.decrements (records_is i) a.cards) ∙ settled true g
 
-        none : (p : ℕ) → p < 8 → override_for l.overrides p ≡ override.None
-        none p h = ap (λ os. override_for os p) given ∙ ap (λ c. c.decrement) (get_or-replicate 8 p not_chosen not_chosen h)
+        none : (p : ℕ) → p < 8 → override_for l.overrides p ≡ None
+        none p h = ap (λ os. override_for os p) given ∙ get_or-replicate 8 p not_chosen not_chosen h
 
         -- the lane worked out afresh
         fresh : (p : ℕ) → p < 8 → lane_at (with_prices z (price_next [] z) (before_next z)) p ≡ priced (lane_at limits p) (price_next [] z p) (before_next z p)

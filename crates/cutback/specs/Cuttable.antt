@@ -1,5 +1,5 @@
 -- What a cutback asks of the lent state. Assumes nothing.
-use Rattle.std.specs.Prelude.{◌≡◌, Bool, true, ◌&&◌, cond, List, ℕ, ◌+◌, ◌≤◌, ◌<◌, leb, ltb, eqb}
+use Rattle.std.specs.Prelude.{◌≡◌, Bool, true, ◌&&◌, cond, List, ℕ, ◌+◌, ◌-◌, ◌≤◌, ◌<◌, leb, ltb, eqb}
 use Rattle.rules.specs.declared.Tranches.{Tranches}
 use Rattle.rules.specs.declared.Place.{Place}
 use Rattle.rules.specs.declared.Setup.{Setup}
@@ -11,7 +11,7 @@ use Rattle.rules.specs.Held.{going_in, free_of}
 use Rattle.rules.specs.Bid.{record_of}
 use Rattle.rules.specs.Legal.{is_open}
 use Rattle.rules.specs.Stands.{Stands}
-use Rattle.rules.specs.Cutback.{may_cut}
+use Rattle.rules.specs.Cutback.{given_for, may_cut}
 use Rattle.rules.specs.Layout.{loaded}
 use Rattle.book.specs.Lent.{Long, Lent}
 use Rattle.storing.specs.Written.{records_in}
@@ -22,6 +22,10 @@ fits_after t target cap last p =
     cond (ltb p t.terms.products)
     ((leb target (target_of t p) && leb cap (cap_of t p)) && ((leb 1 target && leb 1 cap) && (leb target last && leb cap target)))
     (eqb target 0 && eqb cap 0)
+
+-- the target before product p; the first has none
+abbrev pub last_of : List Tranches → ℕ → ℕ
+last_of targets p = cond (eqb p 0) 65535 (given_for targets (p - 1))
 
 -- the records of these places, this free eligibility, the revised targets and caps, and no marks
 abbrev pub limited_to : Auction → List Place → List Tranches → List Tranches → List Tranches → Auction

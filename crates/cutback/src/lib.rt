@@ -10,16 +10,17 @@ ghost use Rattle.rules.specs.Lots.{no_lots};
 ghost use Rattle.rules.specs.Held.{record_at, set_to};
 ghost use Rattle.rules.specs.Accept.{at};
 ghost use Rattle.rules.specs.Round.{not_chosen};
-ghost use Rattle.rules.specs.Cutback.{given_for, may_cut, free_cut, cut_back};
+ghost use Rattle.rules.specs.Cutback.{given_for, numbers_fit, may_cut, free_cut, cut_back};
 ghost use Rattle.rules.specs.Calls.{suggested_call};
 ghost use Rattle.rules.specs.Layout.{loaded, stored};
 ghost use Rattle.book.specs.Lent.{Long, Lent};
 ghost use Rattle.table.specs.Rows.{places_in};
 ghost use Rattle.prices.specs.Outlook.{Listed};
-ghost use Rattle.cutback.specs.Cuttable.{fits_after, Cuttable, limited_to, Cutting};
+ghost use Rattle.cutback.specs.Cuttable.{last_of, Cuttable, limited_to, Cutting};
 
 use prices::Lanes;
-use rules::{Chosen, Limits, Lots, OPEN, Override, Place, Price, Quote, STOPPED, Tranches, Volume};
+use rules::{Limits, Lots, OPEN, Place, Quote, Refusal, STOPPED, Tranches};
+use std::array;
 use table::WIDTH;
 
 // ---- 20: "any condition on the cutback above not met"
@@ -53,14 +54,30 @@ pub fn cap_limits(s: &[u8], target: Tranches, p: usize) -> Limits
     own.under(target.0 as u32)
 }
 
-// Past the products in use both 0.
-fn numbers_fit(s: &[u8], target: Tranches, cap: Tranches, last: u32, p: usize) -> bool
-    requires { Long s.now × (p < 8) }
-    ensures { result ≡ fits_after (setup (loaded s.now)) target.0 cap.0 last p }
+// No target is above this: the first product has none before it.
+pub const ANY: u32 = 65535;
+
+fn last_of(targets: [Tranches; 8], p: usize) -> u32
+    requires { p < 8 }
+    ensures { result ≡ last_of targets p }
 {
+    if p == 0 {
+        return ANY;
+    }
+    targets[p - 1].0 as u32
+}
+
+// Past the products in use both 0.
+fn numbers_fit(s: &[u8], targets: [Tranches; 8], caps: [Tranches; 8], p: usize) -> bool
+    requires { Long s.now × (p < 8) }
+    ensures { result ≡ numbers_fit (setup (loaded s.now)) targets caps p }
+{
+    let target = targets[p];
+    let cap = caps[p];
     if p >= book::products(s) {
         return (target.0 == 0) & (cap.0 == 0);
     }
+    let last = last_of(targets, p);
     target_limits(s, last, p).holds(target.0 as u32) & cap_limits(s, target, p).holds(cap.0 as u32)
 }
 
@@ -69,17 +86,11 @@ pub fn volume(targets: [Tranches; 8]) -> u32
     ensures { result ≡ sum_up_to (given_for targets) 8 }
 {
     let mut sum: u32 = 0;
-    let mut p: usize = 0;
-    while p < 8 {
-        let target = targets[p];
+    for target in targets {
         sum += target.0 as u32;
-        p += 1;
     }
     sum
 }
-
-// No target is above this: the first product has none before it.
-pub const ANY: u32 = 65535;
 
 // "If round 1 leaves the auction open and no round 2 card is filed, the manager may give revised targets and product caps".
 // "The statewide cap stays, so a new volume below it is refused." Past the products in use the targets are 0, or do not fit.
@@ -87,16 +98,7 @@ pub fn may_cut(s: &[u8], targets: [Tranches; 8], caps: [Tranches; 8]) -> bool
     requires { Lent s.now }
     ensures { result ≡ may_cut (loaded s.now) targets caps }
 {
-    let mut fit = true;
-    let mut last = ANY;
-    let mut p: usize = 0;
-    while p < 8 {
-        let target = targets[p];
-        let cap = caps[p];
-        fit = fit & numbers_fit(s, target, cap, last, p);
-        last = target.0 as u32;
-        p += 1;
-    }
+    let fit = (0..8usize).all(|p| numbers_fit(s, targets, caps, p));
     let statewide = book::statewide(s);
     (book::round(s) == ROUND)
         & ((book::filed(s) == 0) & (fit & (statewide.0 as u32 <= volume(targets))))
@@ -109,27 +111,14 @@ fn lanes_of(s: &[u8], targets: [Tranches; 8]) -> Lanes
     requires { Long s.now }
     ensures { Listed result (given_for targets) (start_of (setup (loaded s.now))) (start_of (setup (loaded s.now))) × (result.overrides ≡ replicate 8 not_chosen) }
 {
-    let none = Quote {
-        price: Price::of(0, 0),
-    };
-    let mut target = [0u16; 8];
-    let mut price = [none; 8];
-    let mut p: usize = 0;
-    while p < 8 {
-        let given = targets[p];
-        target[p] = given.0;
-        let x = book::start(s, p);
-        price[p] = Quote { price: x };
-        p += 1;
-    }
-    let not_chosen = Chosen {
-        decrement: Override::None,
-    };
+    let price = array::from_fn(|p| Quote {
+        price: book::start(s, p),
+    });
     Lanes {
-        target,
+        target: targets.map(|given| given.0),
         price,
         before: price,
-        overrides: [not_chosen; 8],
+        overrides: [None; 8],
     }
 }
 
@@ -138,8 +127,7 @@ fn set_to_caps(s: &[u8], caps: [Tranches; 8], ps: &mut [[u32; WIDTH]; 256])
     requires { Long s.now × (length ps.old ≡ 256) }
     ensures { places_in ps.new ≡ list_of (λ k. at (set_to (record_at (loaded s.now).records k) (given_for caps (k % 8))) no_lots 0 0 0) 256 }
 {
-    let mut k: usize = 0;
-    while k < 256 {
+    for k in 0..256 {
         let own = book::record(s, k);
         let cap = caps[k % 8];
         let holds = own.set_to(cap);
@@ -151,7 +139,6 @@ fn set_to_caps(s: &[u8], caps: [Tranches; 8], ps: &mut [[u32; WIDTH]; 256])
             priority: 0,
         };
         table::put(ps, k, place);
-        k += 1;
     }
 }
 
@@ -163,12 +150,10 @@ fn free_after(s: &[u8], caps: [Tranches; 8], b: usize) -> Tranches
     let products = book::products(s);
     let free = book::free(s, b);
     let mut sum = free.0 as u32;
-    let mut p: usize = 0;
-    while p < products {
+    for p in 0..products {
         let own = book::record(s, b * 8 + p);
         let cap = caps[p];
         sum += own.above(cap);
-        p += 1;
     }
     Tranches(sum as u16)
 }
@@ -177,13 +162,7 @@ fn freed(s: &[u8], caps: [Tranches; 8]) -> [Tranches; 32]
     requires { Cuttable s.now }
     ensures { result ≡ list_of (λ b. tranches (free_cut (loaded s.now) caps b)) 32 }
 {
-    let mut all = [Tranches(0); 32];
-    let mut b: usize = 0;
-    while b < 32 {
-        all[b] = free_after(s, caps, b);
-        b += 1;
-    }
-    all
+    array::from_fn(|b| free_after(s, caps, b))
 }
 
 // The phase and the prices are written by its caller; "overrides and their marks dropped".
@@ -235,14 +214,14 @@ pub fn cut_back(s: &mut [u8], targets: [Tranches; 8], caps: [Tranches; 8])
 pub const MOST_BID: u32 = 51200;
 
 // "tranches bid times 100 over the target ratio in hundredths, rounded down"; 31, "a ratio of 0 or more than 51,200 tranches bid".
-pub fn suggested_volume(bid: u32, ratio: u32) -> Volume
+pub fn suggested_volume(bid: u32, ratio: u32) -> Result<u32, Refusal>
     ensures { result ≡ suggested_call bid ratio }
 {
     if ratio == 0 {
-        return Volume::Refused(31);
+        return Err(Refusal::Suggestion);
     }
     if bid > MOST_BID {
-        return Volume::Refused(31);
+        return Err(Refusal::Suggestion);
     }
-    Volume::Suggested(bid * 100 / ratio)
+    Ok(bid * 100 / ratio)
 }

@@ -7,7 +7,8 @@ use native.Mathlib.Omega.{arith}
 use lib.ListN.{length}
 use lib.Dec.{eqb}
 use Rattle.rules.specs.declared.CardRead.{CardRead}
-use Rattle.rules.specs.declared.Card.TheVariants.{Bid}
+use Rattle.std.specs.Prelude.{Ok}
+use Rattle.rules.specs.declared.Bid.{Bid}
 use Rattle.rules.specs.Card.{count_fits, card_length, filled, bid_of, read_refused, read_card}
 use Rattle.rules.specs.Calls.{bidder_on}
 use Rattle.bits.proofs.BitLaws.{field_small}
@@ -24,5 +25,5 @@ module _ (s : List ℕ) (n : ℕ) where
   unfolding read_card
   bidder_small = small_by (count_fits n) (eqb (length s) (card_length n)) (filled s n)
 
-  pub bidder_of_lem : (r : CardRead) (b t : ℕ) → r ≡ read_card s n → r.card ≡ Bid b t → b < 32
-  bidder_of_lem r b t e h = subst (λ x. x < 32) (ap (λ r. bidder_on r.card) (sym e) ∙ ap bidder_on h) bidder_small
+  pub bidder_of_lem : (r : CardRead) (b : Bid) → r ≡ read_card s n → r.card ≡ Ok b → b.bidder < 32
+  bidder_of_lem r b e h = subst (λ x. x < 32) (ap (λ r. bidder_on r.card) (sym e) ∙ ap bidder_on h) bidder_small

@@ -1,5 +1,5 @@
 -- The number of a card that was read while bids are open, and what filing it leaves. Assumes nothing.
-use mathlib.Core.Path.{◌≡◌, sym, ◌∙◌, ap}
+use mathlib.Core.Path.{◌≡◌, refl, sym, ◌∙◌, ap}
 use mathlib.Core.Bool.{Bool, true, false, cond}
 use mathlib.Core.List.{List}
 use Prim.Native.Nat.{ℕ}
@@ -10,30 +10,22 @@ use borrow.Author.Tests.{eq-eqb, ne_eqb}
 use Rattle.rules.specs.declared.CardRead.{CardRead}
 use Rattle.rules.specs.declared.Line.{Line}
 use Rattle.rules.specs.declared.Auction.{Auction}
-use Rattle.rules.specs.declared.Card.TheVariants.{Bid, Refused}
+use Rattle.std.specs.Prelude.{Ok, Err}
+use Rattle.rules.specs.declared.Refusal.{Refusal}
+use Rattle.rules.specs.declared.Bid.{Bid}
+use Rattle.rules.specs.Answers.{Answer, number_of, answer_from}
 use Rattle.rules.specs.Card.{count_fits, card_length, filled, bid_of, read_refused, read_card}
 use Rattle.rules.specs.Calls.{bid_number, card_number, with_card, after_card}
 use Rattle.rules.specs.Layout.{loaded, stored}
 use Rattle.rules.specs.Bits.{set_in}
+use Rattle.rules.proofs.Numbered.{numbered, refused_by, rejected, accepted}
 use Rattle.storing.specs.Written.{with_filed, with_slot}
 use Rattle.filing.specs.Filing.{Files}
 
--- a refused card has a number
-refused_by : (c : List ℕ) (n k : ℕ) (t u v : Bool)
-    → (cond t (cond u (cond v (bid_of c n) (read_refused 5)) (read_refused 4)) (read_refused 29)).card ≡ Refused k → k ≡ 0 → ⊥
-refused_by c n k true true true e z = let q : ◌≡◌ {A = ℕ} 0 1 = cc in omega arith
-refused_by c n k true true false e z = let q : 5 ≡ k = cc in omega arith
-refused_by c n k true false v e z = let q : 4 ≡ k = cc in omega arith
-refused_by c n k false u v e z = let q : 29 ≡ k = cc in omega arith
-
-refused_some : (c : List ℕ) (n k : ℕ) → (read_card c n).card ≡ Refused k → k ≡ 0 → ⊥
-unfolding read_card
-refused_some c n k e = refused_by c n k (count_fits n) (eqb (length c) (card_length n)) (filled c n) e
-
 -- a refusal leaves the bytes as they were
-pub refuses : (s c : List ℕ) (r : ℕ) → r ≡ card_number c (loaded s) → (r ≡ 0 → ⊥) → Files s c r s
-refuses s c r e h = record {
-  number = e;
+pub refuses : (s c : List ℕ) (n : ℕ) (r : Answer) → n ≡ card_number c (loaded s) → r ≡ answer_from n → (n ≡ 0 → ⊥) → Files s c r s
+refuses s c n r e f h = record {
+  answer = f ∙ ap answer_from e;
   bytes = sym (ap (λ t. cond t (stored (after_card c (loaded s))) s) (ne_eqb _ 0 (λ z. h (e ∙ z))));
 }
 
@@ -44,22 +36,22 @@ pub record Reads (s c : List ℕ) (r : CardRead) : Type 0 where
 
 module _ {s c : List ℕ} {r : CardRead} (x : Reads s c r) where
   -- refused: the card's own number
-  pub refused_number : {k : ℕ} → r.card ≡ Refused k → Files s c k s
-  refused_number {k} h =
-      refuses s c k (rw (← x.read, eq-eqb (loaded s).phase 1 x.bidding, h)) (refused_some c _ k (sym (ap (λ r. r.card) x.read) ∙ h))
+  pub refused_number : {e : Refusal} → r.card ≡ Err e → Files s c (Err e) s
+  refused_number {e} h =
+      refuses s c (number_of e) (Err e) (rw (← x.read, eq-eqb (loaded s).phase 1 x.bidding, h)) (refused_by tt _ e refl) (λ z. omega (arith, (numbered e).0))
 
-  module _ {b t n : ℕ} (h : r.card ≡ Bid b t) (f : n ≡ bid_number (loaded s) (Bid b t) r.lines) where
-    is_number : n ≡ card_number c (loaded s)
-    is_number = f ∙ rw (← x.read, eq-eqb (loaded s).phase 1 x.bidding, h)
+  module _ {b : Bid} {n : Answer} (h : r.card ≡ Ok b) (f : n ≡ answer_from (bid_number (loaded s) (Ok b) r.lines)) where
+    is_number : bid_number (loaded s) (Ok b) r.lines ≡ card_number c (loaded s)
+    is_number = rw (← x.read, eq-eqb (loaded s).phase 1 x.bidding, h)
 
     -- a bid: what the auction says of it
-    pub bid_refused : (n ≡ 0 → ⊥) → Files s c n s
-    bid_refused = refuses s c n is_number
+    pub bid_refused : {e : Refusal} → n ≡ Err e → Files s c n s
+    bid_refused q = refuses s c _ n is_number f (rejected tt _ (sym q ∙ f))
 
-    pub bid_filed : n ≡ 0 → {z : List ℕ} → z ≡ stored (with_card (loaded s) b r.lines) → Files s c 0 z
+    pub bid_filed : n ≡ Ok tt → {z : List ℕ} → z ≡ stored (with_card (loaded s) b.bidder r.lines) → Files s c (Ok tt) z
     bid_filed d g =
-        let w = sym (sym is_number ∙ d) in record {
-          number = w;
+        let w = sym (accepted tt _ (sym d ∙ f)) ∙ is_number in record {
+          answer = ap answer_from w;
           bytes = g ∙ rw (← w, ← x.read, h);
         }
 

@@ -1,4 +1,2 @@
 pub mod Signed
 pub mod Found
-pub mod Passed
-pub mod Summing

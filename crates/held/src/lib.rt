@@ -12,6 +12,8 @@ ghost use Rattle.book.specs.Lent.{Lent};
 ghost use Rattle.held.specs.Ticks.{Ticks};
 ghost use Rattle.held.specs.Sums.{held_on, AllHeld, Summed};
 
+use std::array;
+
 // "Held is g + d + r over all bidders."
 pub fn held(s: &[u8], p: usize) -> u32
     requires { Lent s.now × (p < 8) }
@@ -19,11 +21,9 @@ pub fn held(s: &[u8], p: usize) -> u32
 {
     let n = book::bidders(s);
     let mut sum: u32 = 0;
-    let mut b: usize = 0;
-    while b < n {
+    for b in 0..n {
         let r = book::record(s, b * 8 + p);
         sum += r.held();
-        b += 1;
     }
     sum
 }
@@ -33,13 +33,7 @@ pub fn sums(s: &[u8]) -> [u32; 8]
     requires { Lent s.now }
     ensures { AllHeld (loaded s.now) result }
 {
-    let mut sums = [0u32; 8];
-    let mut p: usize = 0;
-    while p < 8 {
-        sums[p] = held(s, p);
-        p += 1;
-    }
-    sums
+    array::from_fn(|p| held(s, p))
 }
 
 // "Standing of a product: held minus target, negative while it is short."
@@ -82,13 +76,7 @@ pub fn ticks_by(s: &[u8], held: &[u32; 8]) -> [u8; 8]
     requires { Summed s.now held.now }
     ensures { (length result ≡ 8) × Ticks result (loaded s.now) }
 {
-    let mut ticks = [0u8; 8];
-    let mut p: usize = 0;
-    while p < 8 {
-        ticks[p] = ticked(s, held, p) as u8;
-        p += 1;
-    }
-    ticks
+    array::from_fn(|p| ticked(s, held, p) as u8)
 }
 
 pub fn ticks(s: &[u8]) -> [u8; 8]
@@ -123,18 +111,14 @@ pub fn excess_by(s: &[u8], held: &[u32; 8]) -> u32
 {
     let m = book::products(s);
     let mut over: u32 = 0;
-    let mut p: usize = 0;
-    while p < m {
+    for p in 0..m {
         over += above_zero(standing_by(s, held, p));
-        p += 1;
     }
     let n = book::bidders(s);
     let mut free: u32 = 0;
-    let mut b: usize = 0;
-    while b < n {
+    for b in 0..n {
         let f = book::free(s, b);
         free += f.0 as u32;
-        b += 1;
     }
     over + free
 }
@@ -152,11 +136,6 @@ pub fn stops_by(s: &[u8], held: &[u32; 8]) -> bool
     ensures { result ≡ stops (loaded s.now) }
 {
     let m = book::products(s);
-    let mut bottom = false;
-    let mut p: usize = 0;
-    while p < m {
-        bottom = bottom | (ticked(s, held, p) & (book::price(s, p).amount() == 1));
-        p += 1;
-    }
+    let bottom = (0..m).any(|p| ticked(s, held, p) & (book::price(s, p).amount() == 1));
     bottom | (book::round(s) == 4095)
 }

@@ -1,13 +1,11 @@
 // Help on the commands around the rounds: the opening, names, the volume, the result, the return.
-use crate::refusals;
-use text::{ANSWER, put};
+use crate::refusals::{
+    CHANGES_NOTHING, NO_BOX, NO_CUTBACK, NO_STATE, NOT_CLOSED, NOT_ISSUED, NOT_OPEN, RATIO,
+    SETTINGS,
+};
 
-pub fn put_open(out: &mut [u8; ANSWER]) -> usize {
-    let a = put(
-        out,
-        0,
-        b"ok
-  open UNIT STATEWIDE product T C P .. bidder E .. row PCT DEC ..
+pub const OPEN: &[&[u8]] = &[
+    b"  open UNIT STATEWIDE product T C P .. bidder E .. row PCT DEC ..
       opens an auction on an issued box; round 1 is then open for cards
   words
     UNIT       kwh: prices in thousandths of a cent per kWh, so 14500 is 14.500 cents per kWh
@@ -20,12 +18,7 @@ pub fn put_open(out: &mut [u8; ANSWER]) -> usize {
     PCT DEC    of each row of decrements, 1 to 8 of them: from an excess supply of PCT percent of
                the target on the price falls by DEC basis points (hundredths of a percent);
                PCT is 0 in the first row, then rises, at most 60000; DEC is 50 to 500
-",
-    );
-    let b = put(
-        out,
-        a,
-        b"    Products, bidders and rows are numbered from 0, as they are given. The words product, bidder
+    Products, bidders and rows are numbered from 0, as they are given. The words product, bidder
     and row stand before each group or once before all. A long line may end in \\ and go on in the
     next one.
   changes
@@ -33,29 +26,20 @@ pub fn put_open(out: &mut [u8; ANSWER]) -> usize {
     opening back, nor what was before it.
   refused
 ",
-    );
-    let c = refusals::put_no_box(out, b);
-    let d = refusals::put_not_issued(out, c);
-    let e = refusals::put_settings(out, d);
-    put(
-        out,
-        e,
-        b"  example, on an issued box
+    NO_BOX,
+    NOT_ISSUED,
+    SETTINGS,
+    b"  example, on an issued box
     > open kwh 21 product 29 14 14500  20 9 14500  7 3 14250  1 1 14500 \\
           bidder 15 14 16 21 14 9 row 0 50  10 150  20 300  43 425  53 500
     ok
     Four products and six bidders, with prices from 14.500 cents per kWh down: by 0.50 percent where
     too much is bid, by 1.50 percent from 10 percent above target on, and so forth.
 ",
-    )
-}
+];
 
-pub fn put_name(out: &mut [u8; ANSWER]) -> usize {
-    let a = put(
-        out,
-        0,
-        b"ok
-  name bidder B NAME
+pub const NAME: &[&[u8]] = &[
+    b"  name bidder B NAME
   name product P NAME
       gives a bidder or a product of the auction a name; answers then have it after the number
   words
@@ -67,51 +51,33 @@ pub fn put_name(out: &mut [u8; ANSWER]) -> usize {
     are: commands go by numbers. A return takes the names away, and undo does not bring them back.
   refused
 ",
-    );
-    let b = refusals::put_no_state(out, a);
-    put(
-        out,
-        b,
-        b"  example, in round 1 of examples/new-jersey
+    NO_BOX,
+    NO_STATE,
+    b"  example, in round 1 of examples/new-jersey
     > name bidder 0 Alpha
     ok
     > name product 0 PSE&G
     ok
 ",
-    )
-}
+];
 
-pub fn put_names(out: &mut [u8; ANSWER]) -> usize {
-    let a = put(
-        out,
-        0,
-        b"ok
-  names
+pub const NAMES: &[&[u8]] = &[
+    b"  names
       how many names are given, and each of them, bidders first; help name says how to give one
-  changes
-    nothing
-  refused
 ",
-    );
-    let b = refusals::put_no_state(out, a);
-    put(
-        out,
-        b,
-        b"  example, in round 1 of examples/new-jersey
+    CHANGES_NOTHING,
+    NO_BOX,
+    NO_STATE,
+    b"  example, in round 1 of examples/new-jersey
     > name bidder 0 Alpha
     ok
     > names
     ok 1
 ",
-    )
-}
+];
 
-pub fn put_suggest(out: &mut [u8; ANSWER]) -> usize {
-    let a = put(
-        out,
-        0,
-        b"ok
-  suggest BID RATIO
+pub const SUGGEST: &[&[u8]] = &[
+    b"  suggest BID RATIO
       the suggested volume: as many tranches as BID tranches bid serve at a target ratio
   words
     BID    tranches bid in round 1, all products together, 0 to 51200
@@ -121,25 +87,16 @@ pub fn put_suggest(out: &mut [u8; ANSWER]) -> usize {
     nothing; help cutback says how the volume is cut
   refused
 ",
-    );
-    let b = refusals::put_ratio(out, a);
-    put(
-        out,
-        b,
-        b"  example, in round 2 of examples/new-jersey
+    RATIO,
+    b"  example, in round 2 of examples/new-jersey
     > suggest 88 150
     ok 58
     In round 1 of it 88 tranches were bid. They are enough for 58, and 57 are wanted: no cutback.
 ",
-    )
-}
+];
 
-pub fn put_cutback(out: &mut [u8; ANSWER]) -> usize {
-    let a = put(
-        out,
-        0,
-        b"ok
-  cutback T C ..
+pub const CUTBACK: &[&[u8]] = &[
+    b"  cutback T C ..
       cuts the volume after round 1, while round 2 is open and no card of it is filed
   words
     T C    of each product: revised target and revised load cap of one bidder, in tranches; none
@@ -153,55 +110,38 @@ pub fn put_cutback(out: &mut [u8; ANSWER]) -> usize {
     Cut before any report of round 1 goes out: the reports tell the prices of round 2.
   refused
 ",
-    );
-    let b = refusals::put_not_open(out, a);
-    let c = refusals::put_no_cutback(out, b);
-    put(
-        out,
-        c,
-        b"  example, in round 2 of examples/new-jersey
+    NO_BOX,
+    NO_STATE,
+    NOT_OPEN,
+    NO_CUTBACK,
+    b"  example, in round 2 of examples/new-jersey
     > cutback 27 13  19 9  7 3  1 1
     ok
     Two tranches less on product 0, whose cap comes down to 13, and one less on product 1.
 ",
-    )
-}
+];
 
-pub fn put_result(out: &mut [u8; ANSWER]) -> usize {
-    let a = put(
-        out,
-        0,
-        b"ok
-  result
+pub const RESULT: &[&[u8]] = &[
+    b"  result
       the result of a closed auction: of each product its one price, in the unit of the auction, and
       of each bidder the tranches that it is awarded on each product
     The price is the highest at which a tranche of the product is held. A tranche held at the going
     price, a denied switch and a retained withdrawal are all awarded.
-  changes
-    nothing
-  refused
 ",
-    );
-    let b = refusals::put_no_state(out, a);
-    let c = refusals::put_not_closed(out, b);
-    put(
-        out,
-        c,
-        b"  example, after the close of examples/new-jersey
+    CHANGES_NOTHING,
+    NO_BOX,
+    NO_STATE,
+    NOT_CLOSED,
+    b"  example, after the close of examples/new-jersey
     > result
     ok
       product 0 price 11547
       bidder 1 2 9 3 0
 ",
-    )
-}
+];
 
-pub fn put_return(out: &mut [u8; ANSWER]) -> usize {
-    let a = put(
-        out,
-        0,
-        b"ok
-  return
+pub const RETURN: &[&[u8]] = &[
+    b"  return
       returns the box: every byte of it becomes zero, and it is issued. Take the result first
   changes
     The box; the names are gone, and the journal is closed as BOX.journal.1, or the next number. At
@@ -209,16 +149,11 @@ pub fn put_return(out: &mut [u8; ANSWER]) -> usize {
     without the names, until another one is opened.
   refused
 ",
-    );
-    let b = refusals::put_no_box(out, a);
-    put(
-        out,
-        b,
-        b"  example, after the close of examples/new-jersey
+    NO_BOX,
+    b"  example, after the close of examples/new-jersey
     > return
     ok
     > show
     ok issued
 ",
-    )
-}
+];

@@ -1,12 +1,7 @@
 // Help on the desk's own commands.
-use text::{ANSWER, put};
 
-pub fn put_bail(out: &mut [u8; ANSWER]) -> usize {
-    put(
-        out,
-        0,
-        b"ok
-  bail on
+pub const BAIL: &[&[u8]] = &[
+    b"  bail on
       the desk ends at the first line that is not answered ok: for scripts, and for lines pasted in
   bail off
       it goes on, as it does from the start unless it is started as desk --bail
@@ -18,15 +13,10 @@ pub fn put_bail(out: &mut [u8; ANSWER]) -> usize {
     > bail off
     ok
 ",
-    )
-}
+];
 
-pub fn put_quit(out: &mut [u8; ANSWER]) -> usize {
-    put(
-        out,
-        0,
-        b"ok
-  quit
+pub const QUIT: &[&[u8]] = &[
+    b"  quit
   exit
       the desk ends; so it does at the end of its input. What was answered ok is in the box file
   changes
@@ -35,15 +25,10 @@ pub fn put_quit(out: &mut [u8; ANSWER]) -> usize {
     > quit
     ok
 ",
-    )
-}
+];
 
-pub fn put_helping(out: &mut [u8; ANSWER]) -> usize {
-    put(
-        out,
-        0,
-        b"ok
-  help
+pub const HELP: &[&[u8]] = &[
+    b"  help
   ?
       every command in a line or two
   help COMMAND
@@ -59,5 +44,4 @@ pub fn put_helping(out: &mut [u8; ANSWER]) -> usize {
     > help count
     ok
 ",
-    )
-}
+];

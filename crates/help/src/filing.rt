@@ -1,27 +1,19 @@
 // Help on the cards of a round.
-use crate::refusals;
-use text::{ANSWER, put};
+use crate::refusals::{
+    CHANGES_NOTHING, FIELDS, FILLING, LENGTH, NO_BIDDER, NO_BOX, NO_STATE, NOT_OPEN, OTHER_ROUND,
+    RULES,
+};
 
 // The letters that the rules of a bid have, in words.
-fn put_letters(out: &mut [u8; ANSWER], at: usize) -> usize {
-    put(
-        out,
-        at,
-        b"  letters in its refusals
+const LETTERS: &[u8] = b"  letters in its refusals
     of one product: b bid (T), g going before, d denied switches, r retained withdrawals,
     R the reduction from g to b, I the increase, p the going price, q the price before its latest
     fall, x the exit price of a lot; of the bidder: f free eligibility, s switched in all (what
     its increases are above f), w withdrawn in all (its reductions less s), k products increased
-",
-    )
-}
+";
 
-pub fn put_bid(out: &mut [u8; ANSWER]) -> usize {
-    let a = put(
-        out,
-        0,
-        b"ok
-  bid B T LOTS P ..
+pub const BID: &[&[u8]] = &[
+    b"  bid B T LOTS P ..
       writes bidder B's card of the present round and files it
   words
     B   the bidder, from 0
@@ -33,34 +25,23 @@ pub fn put_bid(out: &mut [u8; ANSWER]) -> usize {
     P     switching priority: 1 for the increased product that matters most, then 2, ..; 0 where
           the product is not increased, and 0 everywhere where nothing is switched
     T W X P is taken too: one lot of W at the exit price X, or 0 0 for none.
-",
-    );
-    let b = put(
-        out,
-        a,
-        b"    Free eligibility serves the increases first; the increases above it are switches. What is free
+    Free eligibility serves the increases first; the increases above it are switches. What is free
     and not used in this round is lost.
   changes
     The box: the card is filed. A later card of the bidder in this round takes its place; a refused
     one leaves it. ok is followed by the card in bytes. There is no undo: file another card. Before
     or after which other bidders it is filed does not matter (help order).
 ",
-    );
-    let c = put_letters(out, b);
-    let d = put(
-        out,
-        c,
-        b"  refused
+    LETTERS,
+    b"  refused
 ",
-    );
-    let e = refusals::put_not_open(out, d);
-    let f = refusals::put_fields(out, e);
-    let g = refusals::put_no_bidder(out, f);
-    let h = refusals::put_rules(out, g);
-    put(
-        out,
-        h,
-        b"  example, on an issued box
+    NO_BOX,
+    NO_STATE,
+    NOT_OPEN,
+    FIELDS,
+    NO_BIDDER,
+    RULES,
+    b"  example, on an issued box
     > open kwh 6 product 4 4 1000  2 2 1000 bidder 6 6 row 0 500
     ok
     > bid 0  4 - 0  1 - 0
@@ -75,15 +56,10 @@ pub fn put_bid(out: &mut [u8; ANSWER]) -> usize {
     one that it would have served down to 0.960 cents per kWh and one down to 0.980, and switches
     one to product 1.
 ",
-    )
-}
+];
 
-pub fn put_file(out: &mut [u8; ANSWER]) -> usize {
-    let a = put(
-        out,
-        0,
-        b"ok
-  file HEX
+pub const FILE: &[&[u8]] = &[
+    b"  file HEX
       files a card given as bytes; the card names its bidder and its round
   words
     HEX  the card, two hexadecimal digits a byte: 16, 30, 44, 58, 72, 86, 100 or 114 bytes for 1
@@ -93,87 +69,58 @@ pub fn put_file(out: &mut [u8; ANSWER]) -> usize {
     one leaves it. There is no undo: file another card. Before or after which other bidders it is
     filed does not matter (help order).
 ",
-    );
-    let b = put_letters(out, a);
-    let c = put(
-        out,
-        b,
-        b"  refused
+    LETTERS,
+    b"  refused
 ",
-    );
-    let d = refusals::put_not_open(out, c);
-    let e = refusals::put_length(out, d);
-    let f = refusals::put_filling(out, e);
-    let g = refusals::put_no_bidder(out, f);
-    let h = refusals::put_other_round(out, g);
-    let i = refusals::put_rules(out, h);
-    put(
-        out,
-        i,
-        b"  example, on an issued box
+    NO_BOX,
+    NO_STATE,
+    NOT_OPEN,
+    LENGTH,
+    FILLING,
+    NO_BIDDER,
+    OTHER_ROUND,
+    RULES,
+    b"  example, on an issued box
     > open kwh 6 product 4 4 1000  2 2 1000 bidder 6 6 row 0 500
     ok
     > file 000082000000000000000000000000000100000000000000000000000000
     ok
     The same as bid 0  4 - 0  1 - 0
 ",
-    )
-}
+];
 
-pub fn put_count(out: &mut [u8; ANSWER]) -> usize {
-    let a = put(
-        out,
-        0,
-        b"ok
-  count
+pub const COUNT: &[&[u8]] = &[
+    b"  count
       how many bidders are still to file in this round; missing says which
-  changes
-    nothing
-  refused
 ",
-    );
-    let b = refusals::put_not_open(out, a);
-    put(
-        out,
-        b,
-        b"  example, in round 1 of examples/new-jersey
+    CHANGES_NOTHING,
+    NO_BOX,
+    NO_STATE,
+    NOT_OPEN,
+    b"  example, in round 1 of examples/new-jersey
     > count
     ok 6
 ",
-    )
-}
+];
 
-pub fn put_missing(out: &mut [u8; ANSWER]) -> usize {
-    let a = put(
-        out,
-        0,
-        b"ok
-  missing
+pub const MISSING: &[&[u8]] = &[
+    b"  missing
       how many bidders are still to file in this round, and which; each of them gets a default bid
       when the round is calculated (help calculate)
-  changes
-    nothing
-  refused
 ",
-    );
-    let b = refusals::put_not_open(out, a);
-    put(
-        out,
-        b,
-        b"  example, at the end of round 7 of examples/new-jersey
+    CHANGES_NOTHING,
+    NO_BOX,
+    NO_STATE,
+    NOT_OPEN,
+    b"  example, at the end of round 7 of examples/new-jersey
     > missing
     ok 1
       still to file: 0
 ",
-    )
-}
+];
 
-pub fn put_filed(out: &mut [u8; ANSWER]) -> usize {
-    let a = put(
-        out,
-        0,
-        b"ok
-  filed
+pub const FILED: &[&[u8]] = &[
+    b"  filed
       how many of the bidders have filed in this round, and the card of each
   filed B
       the card that bidder B has filed in this round, in numbers and in words
@@ -181,17 +128,13 @@ pub fn put_filed(out: &mut [u8; ANSWER]) -> usize {
     B   the bidder, from 0
     A card is shown as it is typed after bid B: T LOTS P of each product, tranches, what is
     withdrawn, priority. filed B has bidder and round before them.
-  changes
-    nothing
-  refused
 ",
-    );
-    let b = refusals::put_not_open(out, a);
-    let c = refusals::put_no_bidder(out, b);
-    put(
-        out,
-        c,
-        b"  example, at the end of round 7 of examples/new-jersey
+    CHANGES_NOTHING,
+    NO_BOX,
+    NO_STATE,
+    NOT_OPEN,
+    NO_BIDDER,
+    b"  example, at the end of round 7 of examples/new-jersey
     > filed
     ok 5 of 6
     > filed 2
@@ -199,5 +142,4 @@ pub fn put_filed(out: &mut [u8; ANSWER]) -> usize {
     > filed 0
     ok not filed
 ",
-    )
-}
+];

@@ -1,13 +1,10 @@
 // Help on what is done when the cards are in.
-use crate::refusals;
-use text::{ANSWER, put};
+use crate::refusals::{
+    CHANGES_NOTHING, DRAW, NO_BIDDER, NO_BOX, NO_STATE, NOT_OPEN, ORDER, OVERRIDE, TOO_SOON,
+};
 
-pub fn put_calculate(out: &mut [u8; ANSWER]) -> usize {
-    let a = put(
-        out,
-        0,
-        b"ok
-  calculate D0 D1 ..
+pub const CALCULATE: &[&[u8]] = &[
+    b"  calculate D0 D1 ..
   calculate D0 D1 .. override P POINTS ..
   calculate D0 D1 .. [override P POINTS ..] order P0 P1 ..
       calculates the round
@@ -24,12 +21,7 @@ pub fn put_calculate(out: &mut [u8; ANSWER]) -> usize {
     Who has not filed bids nothing on each product whose price has just fallen, all withdrawn in
     one lot at the price before that fall, and as before on the others. At a terminal the desk names
     them and asks first; a script is not asked.
-",
-    );
-    let b = put(
-        out,
-        a,
-        b"  overrides
+  overrides
     A price that falls by your decrement is overridden: the answer, show and every report say so
     until the next calculation or a cutback. An override does nothing where the product is not above
     target, or where the auction closes or stops; the answer says which did nothing.
@@ -50,15 +42,13 @@ pub fn put_calculate(out: &mut [u8; ANSWER]) -> usize {
     BOX.before: undo puts it back, once.
   refused
 ",
-    );
-    let c = refusals::put_not_open(out, b);
-    let d = refusals::put_draw(out, c);
-    let e = refusals::put_override(out, d);
-    let f = refusals::put_order(out, e);
-    put(
-        out,
-        f,
-        b"  example, at the end of round 6 of examples/new-jersey
+    NO_BOX,
+    NO_STATE,
+    NOT_OPEN,
+    DRAW,
+    OVERRIDE,
+    ORDER,
+    b"  example, at the end of round 6 of examples/new-jersey
     > calculate 5 4 0 2 1 3 override 1 200
     ok kept 4 outbid 0
     > show
@@ -71,15 +61,10 @@ pub fn put_calculate(out: &mut [u8; ANSWER]) -> usize {
     ok kept 4 outbid 0
     Products 0 and 2 were short. Now 2 was served before 0, and nothing is different.
 ",
-    )
-}
+];
 
-pub fn put_undo(out: &mut [u8; ANSWER]) -> usize {
-    let a = put(
-        out,
-        0,
-        b"ok
-  undo
+pub const UNDO: &[&[u8]] = &[
+    b"  undo
       puts back the state before the last calculation or return, once
   changes
     The box: what was filed or cut back since goes too. It stands in the journal. Without a box file
@@ -88,27 +73,18 @@ pub fn put_undo(out: &mut [u8; ANSWER]) -> usize {
     Where reports went out already, tell the bidders.
   refused
 ",
-    );
-    let b = refusals::put_no_box(out, a);
-    put(
-        out,
-        b,
-        b"    error nothing to undo ..: nothing was calculated or returned since; nothing is changed
+    NO_BOX,
+    b"    error nothing to undo ..: nothing was calculated or returned since; nothing is changed
   example, at the end of round 1 of examples/new-jersey
     > calculate 2 3 1 0 5 4
     ok kept 0 outbid 0
     > undo
     ok
 ",
-    )
-}
+];
 
-pub fn put_show(out: &mut [u8; ANSWER]) -> usize {
-    let a = put(
-        out,
-        0,
-        b"ok
-  show
+pub const SHOW: &[&[u8]] = &[
+    b"  show
       the manager's view of the whole state; nothing of it is for a bidder
   what it says
     first line   issued, or open, closed or stopped, with round, unit and statewide cap
@@ -120,29 +96,19 @@ pub fn put_show(out: &mut [u8; ANSWER]) -> usize {
                  G D LOTS: going, denied, and what is retained, as COUNT@PRICE,.. or - for none
     card         the card that is filed, as it is typed: of each product T LOTS P, tranches, what
                  is withdrawn, priority
-  changes
-    nothing
-  refused
 ",
-    );
-    let b = refusals::put_no_state(out, a);
-    put(
-        out,
-        b,
-        b"  example, in round 2 of examples/new-jersey
+    CHANGES_NOTHING,
+    NO_BOX,
+    NO_STATE,
+    b"  example, in round 2 of examples/new-jersey
     > show
     ok open round 2 unit kwh statewide 21
       product 0 target 29 cap 14 start 14500 price 13884 before 14500 held 44
 ",
-    )
-}
+];
 
-pub fn put_report(out: &mut [u8; ANSWER]) -> usize {
-    let a = put(
-        out,
-        0,
-        b"ok
-  report B
+pub const REPORT: &[&[u8]] = &[
+    b"  report B
       what bidder B is told after a round
   report all
       the reports to all bidders, one after the other; hand to each its own alone
@@ -153,29 +119,19 @@ pub fn put_report(out: &mut [u8; ANSWER]) -> usize {
     each product the going price in the unit, and the bidder's tranches: going (at the going price),
     denied (switches), retained (withdrawals) as COUNT@PRICE,.. with their exit prices, or - for
     none; overridden where the price fell by a decrement of the manager's.
-  changes
-    nothing
-  refused
 ",
-    );
-    let b = refusals::put_no_state(out, a);
-    let c = put(
-        out,
-        b,
-        b"     3  the box is issued: there is no auction
+    CHANGES_NOTHING,
+    NO_BOX,
+    NO_STATE,
+    b"     3  the box is issued: there is no auction
 ",
-    );
-    let d = refusals::put_no_bidder(out, c);
-    let e = refusals::put_too_soon(out, d);
-    put(
-        out,
-        e,
-        b"  example, in round 2 of examples/new-jersey
+    NO_BIDDER,
+    TOO_SOON,
+    b"  example, in round 2 of examples/new-jersey
     > report 0
     ok open excess 31-40 free 0
       product 0 price 13884 going 10 denied 0 retained -
     > report all
     ok 6
 ",
-    )
-}
+];

@@ -1,12 +1,7 @@
 // Help on what belongs to no one command.
-use text::{ANSWER, put};
 
-pub fn put_units(out: &mut [u8; ANSWER]) -> usize {
-    put(
-        out,
-        0,
-        b"ok
-  units
+pub const UNITS: &[&[u8]] = &[
+    b"  units
     price, exit price     with kwh thousandths of a cent per kWh: 13884 is 13.884 cents per kWh
                           with mwday cents per MW-day: 23500 is $235.00 per MW-day
                           Which of them is fixed by open, for the whole auction. No point and no
@@ -20,15 +15,10 @@ pub fn put_units(out: &mut [u8; ANSWER]) -> usize {
     round                 from 1
     card                  bytes, two hexadecimal digits each
 ",
-    )
-}
+];
 
-pub fn put_lots(out: &mut [u8; ANSWER]) -> usize {
-    let a = put(
-        out,
-        0,
-        b"ok
-  lots
+pub const LOTS: &[&[u8]] = &[
+    b"  lots
     What a bidder withdraws from a product is up to four lots, each a count of tranches and the exit
     price down to which the bidder would have served them.
   how they are typed
@@ -37,12 +27,7 @@ pub fn put_lots(out: &mut [u8; ANSWER]) -> usize {
     -               nothing is withdrawn
     T LOTS P is what a bid has of each product: 7 2@13900,1@14200 0. The older T W X P is taken too,
     and is one lot: 7 2 13900 0 is 7 2@13900 0, and 7 0 0 0 is 7 - 0. A line may have both.
-",
-    );
-    put(
-        out,
-        a,
-        b"  what is asked of them
+  what is asked of them
     11  the counts of all lots together are at most what the product is reduced by, and in all what
         is reduced less what is switched
     12  each price is above the going price and at most the price before its latest fall; the
@@ -54,15 +39,10 @@ pub fn put_lots(out: &mut [u8; ANSWER]) -> usize {
     retained, and only the last of them may be in part. New tranches outbid the highest first. What
     is retained is shown as it is typed.
 ",
-    )
-}
+];
 
-pub fn put_letters(out: &mut [u8; ANSWER]) -> usize {
-    put(
-        out,
-        0,
-        b"ok
-  letters in the words of the refusals
+pub const LETTERS: &[&[u8]] = &[
+    b"  letters in the words of the refusals
     of a bidder on one product
       b  tranches bid on the card
       g  going: tranches held at the going price, as they stand before the round is calculated
@@ -81,15 +61,10 @@ pub fn put_letters(out: &mut [u8; ANSWER]) -> usize {
       q  the price before its latest fall; the going price where it has not fallen yet
   A product ticked where its price has just fallen, since more was held than its target.
 ",
-    )
-}
+];
 
-pub fn put_round(out: &mut [u8; ANSWER]) -> usize {
-    let a = put(
-        out,
-        0,
-        b"ok
-  a round
+pub const ROUND: &[&[u8]] = &[
+    b"  a round
     1  bid B .., or file HEX: each bidder's card. One that is refused is told to its bidder, who may
        send another; the last that is accepted stands. Who files first does not matter (help order).
     2  count, missing: who is still to file. filed: what is filed.
@@ -100,12 +75,7 @@ pub fn put_round(out: &mut [u8; ANSWER]) -> usize {
        suggest and cutback, where too little was bid.
     6  report all, or report B: each bidder is told its own report, and no other.
     The next round is open then. Prices fell where more was held than the target.
-",
-    );
-    put(
-        out,
-        a,
-        b"  the end
+  the end
     Total excess supply is 0: the auction is closed. result has prices and awards; return the box.
     A product above target has price 1, or round 4095 is calculated: the auction is stopped, and has
     no result.
@@ -115,15 +85,10 @@ pub fn put_round(out: &mut [u8; ANSWER]) -> usize {
     They stay to fill the target until new tranches outbid them: a denied switch is then free
     eligibility, a retained withdrawal, that of the highest exit price first, is gone.
 ",
-    )
-}
+];
 
-pub fn put_order(out: &mut [u8; ANSWER]) -> usize {
-    let a = put(
-        out,
-        0,
-        b"ok
-  order
+pub const ORDER: &[&[u8]] = &[
+    b"  order
     Does it matter who filed first, or in which order the cards of a round are entered? No.
   cards of different bidders
     Any order leaves the same box, byte for byte, and each card is accepted, or refused with the
@@ -141,12 +106,7 @@ pub fn put_order(out: &mut [u8; ANSWER]) -> usize {
   the order of the products
     The rank of the products favours none where several are short: calculate D0 D1 .. order P0 P1 ..
     goes by any other order, and gives the same answer and the same box (help calculate).
-",
-    );
-    put(
-        out,
-        a,
-        b"  example, on an issued box
+  example, on an issued box
     > open kwh 2 product 2 2 1000 bidder 2 2 row 0 100
     ok
     > bid 1  1 - 0
@@ -159,15 +119,10 @@ pub fn put_order(out: &mut [u8; ANSWER]) -> usize {
     Bidder 1 bids 2: its later card stands. Bidder 0's might as well be the first or the last of the
     three.
 ",
-    )
-}
+];
 
-pub fn put_example(out: &mut [u8; ANSWER]) -> usize {
-    let a = put(
-        out,
-        0,
-        b"ok
-  example, on an issued box: a small auction to type in, without a box file, to try the desk
+pub const EXAMPLE: &[&[u8]] = &[
+    b"  example, on an issued box: a small auction to type in, without a box file, to try the desk
     One product, 2 tranches wanted, 2 at most to a bidder, from 1.000 cents per kWh. Two bidders may
     bid 2 each. The price falls by 1 percent a round while too much is bid.
     > open kwh 2 product 2 2 1000 bidder 2 2 row 0 100
@@ -175,12 +130,7 @@ pub fn put_example(out: &mut [u8; ANSWER]) -> usize {
     Round 1. Bidder 0 bids 2 tranches, bidder 1 bids 1: one too many, so the price falls to 990.
     > bid 0  2 - 0
     ok 00008100000000000000000000000000
-",
-    );
-    let b = put(
-        out,
-        a,
-        b"    > bid 1  1 - 0
+    > bid 1  1 - 0
     ok 08008080000000000000000000000000
     > calculate 1 0
     ok kept 0 outbid 0
@@ -195,12 +145,7 @@ pub fn put_example(out: &mut [u8; ANSWER]) -> usize {
     ok 0801000080f8c0000000000000000000
     > count
     ok 0
-",
-    );
-    put(
-        out,
-        b,
-        b"    The lower exit price is retained: bidder 0 keeps both of its tranches, and the auction closes.
+    The lower exit price is retained: bidder 0 keeps both of its tranches, and the auction closes.
     > calculate 0 1
     ok kept 1 outbid 0
     > result
@@ -212,5 +157,4 @@ pub fn put_example(out: &mut [u8; ANSWER]) -> usize {
     ok
   ./play examples/new-jersey plays a larger one, with remarks.
 ",
-    )
-}
+];

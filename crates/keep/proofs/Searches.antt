@@ -1,6 +1,6 @@
 -- The searches over numbers find what the definition's searches over places find. Assumes nothing.
 use mathlib.Core.Path.{◌≡◌, refl, sym, ◌∙◌, ap}
-use mathlib.Core.Bool.{Bool, true, false, ◌&&◌, cond}
+use mathlib.Core.Bool.{Bool, true, false, ◌&&◌}
 use mathlib.Core.List.{List}
 use Prim.Native.Nat.{ℕ, zero, suc, ◌+◌, ◌*◌, ◌≤◌, ◌<◌}
 use native.Mathlib.Omega.{arith}
@@ -8,8 +8,7 @@ use borrow.Author.Tests.{lt-ltb, le-ltb, ltb-true, ltb-false, eqb-true, eqb-fals
 use lib.ListN.{get_or, set, length}
 use lib.Seq.{get_or-set_same, get_or-set_other}
 use lib.Dec.{ltb, eqb}
-use Rattle.rules.specs.declared.Pick.{Pick}
-use Rattle.rules.specs.declared.Pick.TheVariants.{At, Nobody}
+use Rattle.std.specs.Prelude.{Option, None, Some}
 use Rattle.rules.specs.declared.Place.{Place}
 use Rattle.rules.specs.Count.{pick_if, better, best_up_to, never}
 use Rattle.rules.specs.Accept.{nowhere, place_at, leaving_of, leaving_at, moving_of, rise_of}
@@ -19,7 +18,7 @@ use Rattle.table.specs.declared.Next.{Next}
 use Rattle.table.specs.Next.{soonest, turn_by}
 use Rattle.table.proofs.Turns.{Apart, soonest_ext, next_nobody, next_first, next_second}
 use Rattle.keep.specs.declared.Best.{Best}
-use Rattle.keep.specs.Search.{next_up_to, found, higher_of, noted, highest_up_to}
+use Rattle.keep.specs.Search.{next_up_to, noted, highest_up_to}
 use Rattle.keep.specs.Step.{Each, Timed, rank_by, Ranked, loss_of, loss_at}
 
 -- ---- one place stored anew, with its number or beside it
@@ -54,14 +53,14 @@ module _ (R : ℕ → Place → Type 0) (vs : List ℕ) (ps : List Place) (long 
 
 -- the next turn, that of number j of the draw, bidder b, is a withdrawal's
 pub record Withdrawal (ps : List Place) (draw : ℕ → ℕ) (n p j b : ℕ) : Type 0 where
-  pub first : leaver n draw ps p ≡ At j
+  pub first : leaver n draw ps p ≡ Some j
   pub some : 0 < leaving_of (place_at ps (b * 8 + p))
   pub drawn : j < n
 
 -- and a switch's
 pub record Switch (ps : List Place) (draw : ℕ → ℕ) (n p j b : ℕ) : Type 0 where
-  pub none : leaver n draw ps p ≡ Nobody
-  pub first : mover n draw ps p ≡ At j
+  pub none : leaver n draw ps p ≡ None
+  pub first : mover n draw ps p ≡ Some j
   pub nothing : leaving_of (place_at ps (b * 8 + p)) ≤ 0
   pub some : 0 < moving_of (place_at ps (b * 8 + p))
   pub drawn : j < n
@@ -90,7 +89,7 @@ module _ (ps : List Place) (turns : List ℕ) (E : Each Timed turns ps) (draw : 
     same : s ≡ soonest (λ i. turn_by (leaves i) (exits i) (moves i) 4294967296) n
     same = e ∙ next_same
 
-    pub next_nothing : s.turn ≡ 4294967297 → (leaver n draw ps p ≡ Nobody) × (mover n draw ps p ≡ Nobody)
+    pub next_nothing : s.turn ≡ 4294967297 → (leaver n draw ps p ≡ None) × (mover n draw ps p ≡ None)
     next_nothing z = next_nobody leaves moves exits (λ i. 4294967296) 4294967296 n apart s same z
 
     pub next_withdrawal : s.turn < 4294967296 → Withdrawal ps draw n p s.at (draw s.at)
@@ -117,36 +116,13 @@ module _ (ranks : List ℕ) (b : ℕ) where
   abbrev pub rank_at : ℕ → ℕ
   rank_at p = get_or ranks (b * 8 + p) 0
 
-  first_by : (n : ℕ) (t : Bool) → noted rank_at (pick_if t n Nobody) ≡ cond t (found n (rank_at n)) (found 0 0)
-  first_by n true = refl
-  first_by n false = refl
-
-  -- a rank above another is one
-  later_by : (n j : ℕ) (s t : Bool) → (t ≡ true → s ≡ true)
-      → noted rank_at (pick_if (s && t) n (At j)) ≡ cond t (found n (rank_at n)) (found j (rank_at j))
-  later_by n j true true h = refl
-  later_by n j false true h = let z = h refl in let y : ◌≡◌ {A = ℕ} 0 1 = cc in absurd (let x : ⊥ = omega arith in x)
-  later_by n j true false h = refl
-  later_by n j false false h = refl
-
-  higher_next : (q : Pick) (n : ℕ)
-      → noted rank_at (better (λ p. ltb 0 (rank_at p)) (λ p q. ltb (rank_at q) (rank_at p)) q n) ≡ higher_of (noted rank_at q) n (rank_at n)
-  higher_next Nobody n = first_by n (ltb 0 (rank_at n))
-  higher_next (At j) n =
-      later_by n j (ltb 0 (rank_at n)) (ltb (rank_at j) (rank_at n))
-      (λ t. let l = ltb-true (rank_at j) (rank_at n) t in lt-ltb 0 (rank_at n) (omega arith))
-
-  pub highest_next : (p : ℕ) (best next : Best) → best ≡ noted rank_at (highest_up_to ranks b p)
-      → next ≡ higher_of best p (rank_at p) → next ≡ noted rank_at (highest_up_to ranks b (suc p))
-  highest_next p best next e f = f ∙ ap (λ q. higher_of q p (rank_at p)) e ∙ sym (higher_next (highest_up_to ranks b p) p)
-
-  loss_by_lem : (m : ℕ) (q : Pick) → highest_up_to ranks b m ≡ q → (best : Best) → best ≡ noted rank_at q
+  loss_by_lem : (m : ℕ) (q : Option ℕ) → highest_up_to ranks b m ≡ q → (best : Best) → best ≡ noted rank_at q
       → ((best.rank ≡ 0) → loss_at q ≡ loss_of 0 0) × ((best.rank ≡ 0 → ⊥) → loss_at q ≡ loss_of best.at 1)
-  loss_by_lem m (At j) f best e =
+  loss_by_lem m (Some j) f best e =
       let l : 0 < rank_at j = ltb-true _ _ (best_found (λ p. ltb 0 (rank_at p)) (λ p q. ltb (rank_at q) (rank_at p)) m j f).1 in
       let r : best.rank ≡ rank_at j = ap (λ b. b.rank) e in
       (λ z. absurd (let x : ⊥ = omega arith in x), λ d. ap (λ b. loss_of b.at 1) (sym e))
-  loss_by_lem m Nobody f best e = (λ z. refl, λ d. absurd (d (ap (λ b. b.rank) e)))
+  loss_by_lem m None f best e = (λ z. refl, λ d. absurd (d (ap (λ b. b.rank) e)))
 
   -- what the bidder loses
   pub loss_is : (m : ℕ) (best : Best) → best ≡ noted rank_at (highest_up_to ranks b m)
@@ -157,7 +133,7 @@ module _ (ranks : List ℕ) (b : ℕ) where
 -- ---- the highest rank is that of the increase with the largest priority number
 
 module _ (has : ℕ → Bool) (key rank : ℕ → ℕ) where
-  abbrev largest : ℕ → Pick
+  abbrev largest : ℕ → Option ℕ
   largest n = best_up_to has (λ i j. ltb (key j) (key i)) n
 
   one_more : (x y : ℕ) (t : Bool) → ltb x y ≡ t → ltb (x + 1) (y + 1) ≡ ltb x y
@@ -172,14 +148,14 @@ module _ (has : ℕ → Bool) (key rank : ℕ → ℕ) where
   less_rank j n true = one_more (key j) (key n) (ltb (key j) (key n)) refl
   less_rank j n false = refl
 
-  rank_step : (q : Pick) (n : ℕ) → ((j : ℕ) → q ≡ At j → rank j ≡ key j + 1) → rank n ≡ rank_by (has n) (key n)
+  rank_step : (q : Option ℕ) (n : ℕ) → ((j : ℕ) → q ≡ Some j → rank j ≡ key j + 1) → rank n ≡ rank_by (has n) (key n)
       → better (λ i. ltb 0 (rank i)) (λ i j. ltb (rank j) (rank i)) q n ≡ better has (λ i j. ltb (key j) (key i)) q n
-  rank_step Nobody n h e = ap (λ r. pick_if (ltb 0 r) n Nobody) e ∙ ap (λ t. pick_if t n Nobody) (has_rank (key n) (has n))
-  rank_step (At j) n h e =
-      ap (λ r. pick_if (ltb 0 (rank n) && ltb r (rank n)) n (At j)) (h j refl)
-      ∙ ap (λ r. pick_if (ltb 0 r && ltb (key j + 1) r) n (At j)) e
-      ∙ ap (λ t. pick_if (t && ltb (key j + 1) (rank_by (has n) (key n))) n (At j)) (has_rank (key n) (has n))
-      ∙ ap (λ t. pick_if t n (At j)) (less_rank j n (has n))
+  rank_step None n h e = ap (λ r. pick_if (ltb 0 r) n None) e ∙ ap (λ t. pick_if t n None) (has_rank (key n) (has n))
+  rank_step (Some j) n h e =
+      ap (λ r. pick_if (ltb 0 (rank n) && ltb r (rank n)) n (Some j)) (h j refl)
+      ∙ ap (λ r. pick_if (ltb 0 r && ltb (key j + 1) r) n (Some j)) e
+      ∙ ap (λ t. pick_if (t && ltb (key j + 1) (rank_by (has n) (key n))) n (Some j)) (has_rank (key n) (has n))
+      ∙ ap (λ t. pick_if t n (Some j)) (less_rank j n (has n))
 
   pub rank_best : (n : ℕ) → ((i : ℕ) → i < n → rank i ≡ rank_by (has i) (key i))
       → best_up_to (λ i. ltb 0 (rank i)) (λ i j. ltb (rank j) (rank i)) n ≡ largest n

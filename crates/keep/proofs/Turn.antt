@@ -2,11 +2,10 @@
 use mathlib.Core.Path.{◌≡◌, refl, sym, ◌∙◌, ap, ap₂}
 use mathlib.Core.Bool.{Bool, true, false, ◌&&◌, cond}
 use mathlib.Core.List.{List}
-use Prim.Native.Nat.{ℕ, zero, suc, ◌+◌, ◌-◌, ◌≤◌, ◌<◌}
+use Prim.Native.Nat.{ℕ, zero, suc, ◌+◌, ◌≤◌}
 use native.Mathlib.Omega.{arith}
+use Rattle.std.specs.Prelude.{Option, None, Some}
 use Rattle.rules.specs.declared.Kept.{Kept}
-use Rattle.rules.specs.declared.Pick.{Pick}
-use Rattle.rules.specs.declared.Pick.TheVariants.{At, Nobody}
 use Rattle.rules.specs.declared.Place.{Place}
 use Rattle.rules.specs.Count.{first_up_to, never}
 use Rattle.rules.specs.Held.{standing, below}
@@ -23,12 +22,12 @@ use Rattle.keep.specs.Work.{Working, Keeping, KeptNext}
 -- ---- one turn of the definition
 
 module _ (m n : ℕ) (target : ℕ → ℕ) (tick : ℕ → Bool) (draw : ℕ → ℕ) (ps : List Place) where
-  pub loop_none : (f c : ℕ) → first_up_to (short n target tick ps) m ≡ Nobody → keep_loop m n target tick draw f ps c ≡ kept ps c
+  pub loop_none : (f c : ℕ) → first_up_to (short n target tick ps) m ≡ None → keep_loop m n target tick draw f ps c ≡ kept ps c
   unfolding keep_loop
   loop_none zero c e = refl
   loop_none (suc f) c e = rw e
 
-  pub loop_step : (f c p : ℕ) → first_up_to (short n target tick ps) m ≡ At p → can_keep n draw ps p ≡ true
+  pub loop_step : (f c p : ℕ) → first_up_to (short n target tick ps) m ≡ Some p → can_keep n draw ps p ≡ true
       → keep_loop m n target tick draw (suc f) ps c ≡ keep_loop m n target tick draw f (keep_step m n draw ps p) (c + 1)
   unfolding keep_loop
   loop_step f c p e k = rw (e, k)
@@ -39,7 +38,7 @@ module _ (m n : ℕ) (target : ℕ → ℕ) (tick : ℕ → Bool) (draw : ℕ �
   loop_out zero c l = refl
   loop_out (suc f) c l = absurd (let z : ⊥ = omega arith in z)
 
-  pub loop_idle : (f c p : ℕ) → first_up_to (short n target tick ps) m ≡ At p → can_keep n draw ps p ≡ false
+  pub loop_idle : (f c p : ℕ) → first_up_to (short n target tick ps) m ≡ Some p → can_keep n draw ps p ≡ false
       → keep_loop m n target tick draw f ps c ≡ kept ps c
   unfolding keep_loop
   loop_idle zero c p e k = refl
@@ -60,7 +59,7 @@ module _ {m n : ℕ} {targets ticks order : List ℕ} {whole : Kept} {ps : List 
   pub turn_out : fuel ≤ 0 → kept ps count ≡ whole
   turn_out l = sym (loop_out m n (target_on targets) (is_one ticks) (drawn order) ps fuel count l) ∙ t.same
 
-  module _ (q : Pick) (e : q ≡ first_up_to (short_by held targets ticks) m) where
+  module _ (q : Option ℕ) (e : q ≡ first_up_to (short_by held targets ticks) m) where
     -- the code looks at what it has counted, the definition counts anew
     first_same : first_up_to (short n (target_on targets) (is_one ticks) ps) m ≡ q
     first_same =
@@ -68,11 +67,11 @@ module _ {m n : ℕ} {targets ticks order : List ℕ} {whole : Kept} {ps : List 
         (λ p l. ap (λ h. is_one ticks p && below (standing h (target_on targets p)))
         (t.working.book.holds.each p (omega (arith, t.few)))))
 
-    pub turn_none : q ≡ Nobody → kept ps count ≡ whole
+    pub turn_none : q ≡ None → kept ps count ≡ whole
     turn_none f = sym (loop_none m n (target_on targets) (is_one ticks) (drawn order) ps fuel count (first_same ∙ f)) ∙ t.same
 
     -- a tranche kept on the short product, or none left to keep there
-    module _ (p : ℕ) (f : q ≡ At p) where
+    module _ (p : ℕ) (f : q ≡ Some p) where
       pub turn_keeping : Keeping m n order ps held turns ranks p
       turn_keeping =
           let l = (best_found (short n (target_on targets) (is_one ticks) ps) never m p (first_same ∙ f)).0 in
@@ -88,19 +87,18 @@ module _ {m n : ℕ} {targets ticks order : List ℕ} {whole : Kept} {ps : List 
             ∙ sym (loop_idle m n (target_on targets) (is_one ticks) (drawn order) ps fuel count p (first_same ∙ f) (sym K.can ∙ z))
             ∙ t.same
 
-        pub turn_again : r ≡ true → 0 < fuel → (c : ℕ) → c ≡ count + 1
-            → Turn m n targets ticks order whole ps' held' turns' ranks' c (fuel - 1)
-        turn_again z l c ec =
+        pub turn_again : r ≡ true → (c : ℕ) → c ≡ count + 1 → (left : ℕ) → suc left ≡ fuel
+            → Turn m n targets ticks order whole ps' held' turns' ranks' c left
+        turn_again z c ec left one =
             let go = keep_loop m n (target_on targets) (is_one ticks) (drawn order) in
-            let one : suc (fuel - 1) ≡ fuel = omega arith in
             record {
               few = t.few;
               draw = t.draw;
               working = K.working;
-              some = omega (arith, t.some);
+              some = omega (arith, t.some, one);
               same =
-                  ap₂ (go (fuel - 1)) (places_by z) ec
-                  ∙ sym (loop_step m n (target_on targets) (is_one ticks) (drawn order) ps (fuel - 1) count p (first_same ∙ f)
+                  ap₂ (go left) (places_by z) ec
+                  ∙ sym (loop_step m n (target_on targets) (is_one ticks) (drawn order) ps left count p (first_same ∙ f)
                   (sym K.can ∙ z))
                   ∙ ap (λ f. go f ps count) one ∙ t.same;
             }

@@ -1,7 +1,5 @@
 -- What the searches over the numbers find. Assumes nothing.
-use Rattle.std.specs.Prelude.{cond, List, ℕ, ◌+◌, ◌*◌, get_or, ltb}
-use Rattle.rules.specs.declared.Pick.{Pick}
-use Rattle.rules.specs.declared.Pick.TheVariants.{At, Nobody}
+use Rattle.std.specs.Prelude.{cond, List, ℕ, ◌+◌, ◌*◌, get_or, ltb, Option, None, Some}
 use Rattle.rules.specs.Count.{best_up_to}
 use Rattle.table.specs.declared.Next.{Next}
 use Rattle.table.specs.Next.{soonest}
@@ -17,11 +15,11 @@ found i x = record { at = i; rank = x }
 abbrev pub higher_of : Best → ℕ → ℕ → Best
 higher_of b i x = cond (ltb b.rank x) (found i x) b
 
-abbrev pub noted : (ℕ → ℕ) → Pick → Best
-noted rank (At j) = found j (rank j)
-noted rank Nobody = found 0 0
+abbrev pub noted : (ℕ → ℕ) → Option ℕ → Best
+noted rank (Some j) = found j (rank j)
+noted rank None = found 0 0
 
 -- bidder b's product with the highest rank, and of equals the earliest; a rank of 0 is none
-abbrev pub highest_up_to : List ℕ → ℕ → ℕ → Pick
+abbrev pub highest_up_to : List ℕ → ℕ → ℕ → Option ℕ
 highest_up_to ranks b m =
     best_up_to (λ p. ltb 0 (get_or ranks (b * 8 + p) 0)) (λ p q. ltb (get_or ranks (b * 8 + q) 0) (get_or ranks (b * 8 + p) 0)) m

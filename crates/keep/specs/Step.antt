@@ -1,7 +1,5 @@
 -- One step of step 2, as the loop makes it: the numbers that go with the places, and what changes. Assumes nothing.
-use Rattle.std.specs.Prelude.{◌≡◌, Bool, cond, ◌&&◌, List, ℕ, ◌+◌, ◌≤◌, ◌<◌, get_or, length, ltb}
-use Rattle.rules.specs.declared.Pick.{Pick}
-use Rattle.rules.specs.declared.Pick.TheVariants.{At, Nobody}
+use Rattle.std.specs.Prelude.{◌≡◌, Bool, cond, ◌&&◌, List, ℕ, ◌+◌, ◌≤◌, ◌<◌, get_or, length, ltb, Option, None, Some}
 use Rattle.rules.specs.declared.Place.{Place}
 use Rattle.rules.specs.Held.{standing, below}
 use Rattle.rules.specs.Accept.{place_at, every, held_of, left_of, leaving_of, leaving_at, moving_of, rise_of, retain, deny, cancel}
@@ -60,11 +58,11 @@ kept_one l = cond (ltb 0 (leaving_of l)) (retain l) (deny l)
 abbrev pub loss_of : ℕ → ℕ → Loss
 loss_of p c = record { product = p; count = c }
 
-abbrev pub loss_at : Pick → Loss
-loss_at (At p) = loss_of p 1
-loss_at Nobody = loss_of 0 0
+abbrev pub loss_at : Option ℕ → Loss
+loss_at (Some p) = loss_of p 1
+loss_at None = loss_of 0 0
 
-abbrev pub loss_by : ℕ → Pick → Loss
+abbrev pub loss_by : ℕ → Option ℕ → Loss
 loss_by turn q = cond (ltb turn 4294967296) (loss_of 0 0) (loss_at q)
 
 abbrev pub cancel_some : ℕ → Place → Place

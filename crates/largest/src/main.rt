@@ -7,13 +7,12 @@
 // `e` writes it.
 #![tactic(auto)]
 
-ghost use Rattle.std.specs.Prelude.{◌≡◌, length};
-
 use layout::{FREE, PHASE, ROUND, SEAT, STATE};
 use rules::{
-    BasisPoints, Calculation, Card, Chosen, Count, KwhPrice, Line, Lot, Lots, Override, Price,
-    Product, Row, Settings, Tranches, Unit,
+    BasisPoints, Bid, Calculation, KwhPrice, Line, Lot, Lots, Price, Product, Refusal, Row,
+    Settings, Tranches, Unit,
 };
+use std::array;
 use std::env::FillError;
 use std::io::Read;
 use std::rt::Env;
@@ -85,44 +84,36 @@ fn in_lots() -> Line {
 
 // Every bidder files the same lines.
 fn file_all(state: &mut [u8], round: u16, lines: [Line; 8]) {
-    let mut b: u8 = 0;
-    while b < 32 {
+    for b in 0..32 {
         let mut card = [0u8; 114];
-        console::write(&mut card, 8, b, round, lines);
-        console::file(state, &card);
-        b += 1;
+        let _ = console::write(&mut card, 8, b, round, lines);
+        let _ = console::file(state, &card);
     }
 }
 
-fn draw() -> [u8; 32]
-    ensures { length result ≡ 32 }
-{
-    let mut order = [0u8; 32];
-    let mut i: usize = 0;
-    while i < 32 {
-        order[i] = i as u8;
-        i += 1;
-    }
-    order
+fn draw() -> [u8; 32] {
+    array::from_fn(|i| i as u8)
 }
 
-fn no_overrides() -> [Chosen; 8] {
-    let none = Chosen {
-        decrement: Override::None,
-    };
-    [none; 8]
+fn no_overrides() -> [Option<BasisPoints>; 8] {
+    [None; 8]
+}
+
+// An order of the products for the plain engine: the last in rank goes first.
+fn backwards() -> [u8; 8] {
+    [7, 6, 5, 4, 3, 2, 1, 0]
 }
 
 // The state is returned, and an auction opened whose bidders may bid `each` tranches.
 fn opened(state: &mut [u8], each: u16) {
-    console::return_box(state);
-    console::open(state, settings(each));
+    let _ = console::return_box(state);
+    let _ = console::open(state, settings(each));
 }
 
 // A round in which every bidder files the same lines.
 fn played(state: &mut [u8], round: u16, lines: [Line; 8]) {
     file_all(state, round, lines);
-    console::calculate(state, &draw(), no_overrides());
+    let _ = console::calculate(state, &draw(), no_overrides());
 }
 
 // Round 2 with 224 tranches bid on every product, and nobody has filed.
@@ -186,17 +177,15 @@ fn open_again(state: &mut [u8]) {
     }
     state[PHASE] = 1;
     state[ROUND + 1] = 3;
-    let mut b: usize = 0;
-    while b < 32 {
+    for b in 0..32 {
         state[FREE + SEAT * b + 1] = 56;
-        b += 1;
     }
 }
 
 // Closed in round 2 with 200 withdrawals kept in lots on every product.
 fn all_retained(state: &mut [u8]) {
     all_in_lots(state);
-    console::calculate(state, &draw(), no_overrides());
+    let _ = console::calculate(state, &draw(), no_overrides());
 }
 
 // The same in round 3, and 224 tranches are bid on each product from free eligibility.
@@ -216,58 +205,24 @@ fn say(rt: &impl Print, words: &[u8], n: u32) {
     let _ = rt.print(n);
 }
 
-fn told(rt: &impl Print, answer: Calculation) {
+fn told(rt: &impl Print, answer: Result<Calculation, Refusal>) {
     match answer {
-        Calculation::Done { kept, outbid } => {
+        Ok(Calculation { kept, outbid }) => {
             say(rt, b"kept ", kept);
             say(rt, b", outbid ", outbid);
         }
-        Calculation::Refused(n) => say(rt, b"refused ", n as u32),
+        Err(e) => say(rt, b"refused ", e.number() as u32),
     }
     write(rt, b"\n");
-}
-
-fn calculated(rt: &impl Print, start: [u8; STATE]) {
-    let mut state = start;
-    told(rt, console::calculate(&mut state, &draw(), no_overrides()));
-}
-
-// The last in rank goes first.
-fn backwards() -> [u8; 8] {
-    [7, 6, 5, 4, 3, 2, 1, 0]
-}
-
-fn calculated_backwards(rt: &impl Print, start: [u8; STATE]) {
-    let mut state = start;
-    told(
-        rt,
-        console::calculate_plain(&mut state, &draw(), no_overrides(), &backwards()),
-    );
 }
 
 fn counted(rt: &impl Print, state: [u8; STATE]) {
     let answer = console::count(&state);
     match answer {
-        Count::ToFile(n) => say(rt, b"still to file ", n),
-        Count::Refused(n) => say(rt, b"refused ", n as u32),
+        Ok(n) => say(rt, b"still to file ", n),
+        Err(e) => say(rt, b"refused ", e.number() as u32),
     }
     write(rt, b"\n");
-}
-
-fn written(rt: &impl Print, state: [u8; STATE]) {
-    write(rt, &state);
-}
-
-fn written_after(rt: &impl Print, start: [u8; STATE]) {
-    let mut state = start;
-    console::calculate(&mut state, &draw(), no_overrides());
-    write(rt, &state);
-}
-
-fn written_after_backwards(rt: &impl Print, start: [u8; STATE]) {
-    let mut state = start;
-    console::calculate_plain(&mut state, &draw(), no_overrides(), &backwards());
-    write(rt, &state);
 }
 
 // The largest card, with every bit of its fields set: 905 bits, and 7 that fill the last byte.
@@ -281,20 +236,16 @@ fn read_card(rt: &impl Print) {
     let read = console::read(&largest_card(), 8);
     let card = read.card;
     match card {
-        Card::Bid { bidder, round } => {
+        Ok(Bid { bidder, round }) => {
             say(rt, b"bidder ", bidder as u32);
             say(rt, b", round ", round as u32);
         }
-        Card::Refused(n) => say(rt, b"refused ", n as u32),
+        Err(e) => say(rt, b"refused ", e.number() as u32),
     }
     let lines = read.lines;
     let last = lines[7];
     say(rt, b", product 7 priority ", last.priority as u32);
     write(rt, b"\n");
-}
-
-fn wide(byte: u8) -> u32 {
-    byte as u32
 }
 
 fn written_card(rt: &impl Print) {
@@ -310,8 +261,8 @@ fn written_card(rt: &impl Print) {
         priority: 7,
     };
     let mut card = [0u8; 114];
-    console::write(&mut card, 8, 31, 4095, [full; 8]);
-    say(rt, b"the last byte is ", wide(card[113]));
+    let _ = console::write(&mut card, 8, 31, 4095, [full; 8]);
+    say(rt, b"the last byte is ", card[113] as u32);
     write(rt, b"\n");
 }
 
@@ -331,14 +282,24 @@ fn choose(rt: &impl Input, state: &mut [u8], letter: u8) {
     }
 }
 
-fn act(rt: &impl Print, state: [u8; STATE], letter: u8) {
+fn act(rt: &impl Print, start: [u8; STATE], letter: u8) {
+    let mut state = start;
     match letter {
-        b'k' => calculated(rt, state),
+        b'k' => told(rt, console::calculate(&mut state, &draw(), no_overrides())),
         b'c' => counted(rt, state),
-        b'b' => written(rt, state),
-        b'a' => written_after(rt, state),
-        b'p' => calculated_backwards(rt, state),
-        b'n' => written_after_backwards(rt, state),
+        b'b' => write(rt, &state),
+        b'a' => {
+            let _ = console::calculate(&mut state, &draw(), no_overrides());
+            write(rt, &state);
+        }
+        b'p' => told(
+            rt,
+            console::calculate_plain(&mut state, &draw(), no_overrides(), &backwards()),
+        ),
+        b'n' => {
+            let _ = console::calculate_plain(&mut state, &draw(), no_overrides(), &backwards());
+            write(rt, &state);
+        }
         b'd' => read_card(rt),
         b'e' => written_card(rt),
         _ => {}

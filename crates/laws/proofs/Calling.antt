@@ -8,13 +8,15 @@ use borrow.Author.Tests.{eqb-true, ltb-true, ltb-false}
 use lib.ListN.{length, replicate, length-replicate, length-set}
 use lib.Seq.{get_or-set_other}
 use lib.Dec.{eqb, ltb}
+use Rattle.rules.proofs.Numbered.{numbered}
+use Rattle.std.specs.Prelude.{Result, Ok, Err}
 use Rattle.rules.specs.declared.Line.{Line}
-use Rattle.rules.specs.declared.Card.{Card}
-use Rattle.rules.specs.declared.Card.TheVariants.{Bid, Refused}
+use Rattle.rules.specs.declared.Refusal.{Refusal}
+use Rattle.rules.specs.declared.Bid.{Bid}
 use Rattle.rules.specs.declared.Settings.{Settings}
 use Rattle.rules.specs.declared.Auction.{Auction}
 use Rattle.rules.specs.Settings.{settings_fit, setup, setup_of, item_of, product_at}
-use Rattle.rules.specs.Card.{no_line, line_zero, line_at, line_bit, count_fits, filled, card_length, read_lines, read_refused, bid_of, read_card}
+use Rattle.rules.specs.Card.{no_line, line_zero, line_at, line_bit, count_fits, filled, card_length, read_lines, read_refused, bid_of, read_card, bid_by}
 use Rattle.rules.specs.Bid.{on_product, judged}
 use Rattle.rules.specs.Legal.{is_open, zero_from}
 use Rattle.rules.specs.Layout.{stored, loaded}
@@ -92,17 +94,6 @@ module _ (s : List ℕ) (n : ℕ) where
       read_by (λ ls. zero_from ls n ≡ true) (blank_past (read_lines s n) n (lines_past s n)) (blank_past (replicate 8 no_line) n (λ p h. blank no_line 8 p))
       (count_fits n) (eqb (length s) (card_length n)) (filled s n)
 
-  number_by : (t u v : Bool) (k : ℕ) → (cond t (cond u (cond v (bid_of s n) (read_refused 5)) (read_refused 4)) (read_refused 29)).card ≡ Refused k → 0 < k
-  number_by true true true k e = let z : ◌≡◌ {A = ℕ} 0 1 = cc in omega arith
-  number_by true true false k e = let q : 5 ≡ k = cc in omega arith
-  number_by true false v k e = let q : 4 ≡ k = cc in omega arith
-  number_by false u v k e = let q : 29 ≡ k = cc in omega arith
-
-  -- a refusal has a number
-  read_number_lem : (k : ℕ) → (read_card s n).card ≡ Refused k → 0 < k
-  unfolding read_card
-  read_number_lem = number_by (count_fits n) (eqb (length s) (card_length n)) (filled s n)
-
 -- ---- file
 
 -- a number not given, where the test must pass
@@ -110,22 +101,22 @@ pub granted : (t : Bool) (x n : ℕ) → 0 < n → cond t x n ≡ 0 → (t ≡ t
 granted true x n h e = (refl, e)
 granted false x n h e = absurd (let z : ⊥ = omega arith in z)
 
-card_by : (a : Auction) (ls : List Line) (c : Card) → ((k : ℕ) → c ≡ Refused k → 0 < k) → bid_number a c ls ≡ 0
-    → (bidder_on c < a.terms.bidders) × (judged a (bidder_on c) ls ≡ 0) × (c ≡ Bid (bidder_on c) a.round)
-card_by a ls (Bid b r) h e =
-    let x = granted (ltb b a.terms.bidders) _ 6 (omega arith) e in
-    let y = granted (eqb r a.round) _ 7 (omega arith) x.1 in
-    (ltb-true _ _ x.0, y.1, ap (Bid b) (eqb-true _ _ y.0))
-card_by a ls (Refused k) h e = absurd (let z : ⊥ = omega (arith, h k refl) in z)
+card_by : (a : Auction) (ls : List Line) (c : Result Bid Refusal) → bid_number a c ls ≡ 0
+    → (bidder_on c < a.terms.bidders) × (judged a (bidder_on c) ls ≡ 0) × (c ≡ Ok (bid_by (bidder_on c) a.round))
+card_by a ls (Ok x) e =
+    let y = granted (ltb x.bidder a.terms.bidders) _ 6 (omega arith) e in
+    let z = granted (eqb x.round a.round) _ 7 (omega arith) y.1 in
+    (ltb-true _ _ y.0, z.1, ap (λ r. Ok (bid_by x.bidder r)) (eqb-true _ _ z.0))
+card_by a ls (Err r) e = absurd (let z : ⊥ = omega (arith, e, (numbered r).0) in z)
 
 -- what a card filed is: bids are open, it is accepted of its bidder, and it is of this round
 pub file_take : (a : Auction) (s : List ℕ) → card_number s a ≡ 0
     → (is_open a ≡ true) × (bidder_on (read_card s a.terms.products).card < a.terms.bidders)
     × (judged a (bidder_on (read_card s a.terms.products).card) (read_card s a.terms.products).lines ≡ 0)
-    × ((read_card s a.terms.products).card ≡ Bid (bidder_on (read_card s a.terms.products).card) a.round)
+    × ((read_card s a.terms.products).card ≡ Ok (bid_by (bidder_on (read_card s a.terms.products).card) a.round))
 file_take a s e =
     let o = granted (is_open a) _ 3 (omega arith) e in
-    let c = card_by a _ (read_card s a.terms.products).card (read_number_lem s a.terms.products) o.1 in
+    let c = card_by a _ (read_card s a.terms.products).card o.1 in
     (o.0, c.0, c.1, c.2)
 
 module _ (a : Auction) (S : Stands a) (L : Long a) (s : List ℕ) (e : card_number s a ≡ 0) where

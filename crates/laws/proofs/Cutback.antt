@@ -9,10 +9,10 @@ use native.Mathlib.Nat.{zero-div}
 use borrow.Author.Tests.{eqb-false, ne_eqb, ltb-true, ltb-false, lt-ltb}
 use lib.ListN.{length, get_or}
 use lib.Dec.{eqb, ltb}
+use Rattle.std.specs.Prelude.{None}
 use Rattle.rules.specs.declared.Tranches.{Tranches}
 use Rattle.rules.specs.declared.Record.{Record}
 use Rattle.rules.specs.declared.Lane.{Lane}
-use Rattle.rules.specs.declared.Override.TheVariants as override
 use Rattle.rules.specs.declared.Setup.{Setup}
 use Rattle.rules.specs.declared.Auction.{Auction}
 use Rattle.rules.specs.Count.{sum_up_to}
@@ -292,7 +292,7 @@ module _ (a : Auction) (targets caps : List Tranches) where
     none_fit = all_give _ 8 (λ p l. refl)
 
     next_of : stops z ≡ false → (p : ℕ) → p < m
-        → Priced z override.None p (held z.records n p) (price onwards p) (before onwards p) (mark_next [] z p)
+        → Priced z None p (held z.records n p) (price onwards p) (before onwards p) (mark_next [] z p)
     unfolding reduced
     next_of e p hp =
         rw (on_price p (omega (arith, hm)), on_before p (omega (arith, hm)))

@@ -7,19 +7,18 @@ use native.Mathlib.Omega.{arith}
 use borrow.Author.Tests.{eqb-true, eqb-false, eq-eqb, ne_eqb, ltb-true, lt-ltb}
 use lib.ListN.{length}
 use lib.Dec.{eqb, ltb}
-use Rattle.rules.specs.declared.Pick.{Pick}
-use Rattle.rules.specs.declared.Pick.TheVariants.{At, Nobody}
-use Rattle.rules.specs.Count.{sum_up_to, all_up_to, first_up_to, never, is_at}
+use Rattle.std.specs.Prelude.{Option, None, Some, is_some}
+use Rattle.rules.specs.Count.{sum_up_to, all_up_to, first_up_to, never}
 use Rattle.rules.specs.Bid.{one_if}
 use Rattle.rules.specs.Round.{drawn, draw_fits}
 use Rattle.rules.proofs.Sums.{sum_ext, sum_zero, sum_ge, sum_one, sum_two, sum_swap, sum_tight, and_left, and_right, best_found, best_none}
 use Rattle.rules.proofs.Lists.{clash, both, all_take, all_give}
 
 module _ (n : ℕ) (order : List ℕ) (D : draw_fits n order ≡ true) where
-  abbrev found : ℕ → Pick
+  abbrev found : ℕ → Option ℕ
   found b = first_up_to (λ i. eqb (drawn order i) b) n
 
-  parts : (all_up_to (λ i. ltb (drawn order i) n) n && all_up_to (λ b. is_at (first_up_to (λ i. eqb (drawn order i) b) n)) n) ≡ true
+  parts : (all_up_to (λ i. ltb (drawn order i) n) n && all_up_to (λ b. is_some (first_up_to (λ i. eqb (drawn order i) b) n)) n) ≡ true
   parts = and_right (eqb (length order) n) _ D
 
   -- as many as the bidders
@@ -32,17 +31,17 @@ module _ (n : ℕ) (order : List ℕ) (D : draw_fits n order ≡ true) where
       ltb-true (drawn order i) n
       (all_take (λ i. ltb (drawn order i) n) n (and_left (all_up_to (λ i. ltb (drawn order i) n) n) _ parts) i l)
 
-  reach_by : (b : ℕ) (q : Pick) → found b ≡ q → is_at q ≡ true → (i : ℕ) × (i < n) × (drawn order i ≡ b)
-  reach_by b (At i) e t =
+  reach_by : (b : ℕ) (q : Option ℕ) → found b ≡ q → is_some q ≡ true → (i : ℕ) × (i < n) × (drawn order i ≡ b)
+  reach_by b (Some i) e t =
       let f = best_found (λ i. eqb (drawn order i) b) never n i e in
       (i, f.0, eqb-true (drawn order i) b f.1)
-  reach_by b Nobody e t = clash t refl
+  reach_by b None e t = clash t refl
 
   -- every bidder somewhere
   pub draw_reach : (b : ℕ) → b < n → (i : ℕ) × (i < n) × (drawn order i ≡ b)
   draw_reach b l =
       reach_by b (found b) refl
-      (all_take (λ b. is_at (found b)) n (and_right (all_up_to (λ i. ltb (drawn order i) n) n) _ parts) b l)
+      (all_take (λ b. is_some (found b)) n (and_right (all_up_to (λ i. ltb (drawn order i) n) n) _ parts) b l)
 
   -- how often bidder b is drawn
   abbrev times : ℕ → ℕ
@@ -81,12 +80,12 @@ pub draw_fits_lem : (n : ℕ) (order : List ℕ) → length order ≡ n → ((i 
 draw_fits_lem n order long range reach =
     both (eq-eqb (length order) n long)
     (both (all_give (λ i. ltb (drawn order i) n) n (λ i l. lt-ltb (drawn order i) n (range i l)))
-    (all_give (λ b. is_at (found b)) n (λ b l. by b (reach b l) (found b) refl)))
+    (all_give (λ b. is_some (found b)) n (λ b l. by b (reach b l) (found b) refl)))
   where
-    found : ℕ → Pick
+    found : ℕ → Option ℕ
     found b = first_up_to (λ i. eqb (drawn order i) b) n
 
-    by : (b : ℕ) → (i : ℕ) × (i < n) × (drawn order i ≡ b) → (q : Pick) → found b ≡ q → is_at q ≡ true
-    by b r (At i) e = refl
-    by b r Nobody e =
+    by : (b : ℕ) → (i : ℕ) × (i < n) × (drawn order i ≡ b) → (q : Option ℕ) → found b ≡ q → is_some q ≡ true
+    by b r (Some i) e = refl
+    by b r None e =
         clash (eq-eqb (drawn order r.0) b r.2) (best_none (λ i. eqb (drawn order i) b) never n e r.0 r.1)

@@ -8,14 +8,14 @@ use native.Mathlib.Nat.{div-mul-le_self, le-div_iff_mul-le}
 use borrow.Author.Tests.{eqb-true, eqb-false, eq-eqb, ne_eqb}
 use lib.ListN.{length, get_or, replicate}
 use lib.Dec.{eqb, leb}
+use Rattle.std.specs.Prelude.{Err}
+use Rattle.rules.specs.Price.{Override}
 use Rattle.rules.specs.declared.Tranches.{Tranches}
-use Rattle.rules.specs.declared.Chosen.{Chosen}
 use Rattle.rules.specs.declared.Settings.{Settings}
 use Rattle.rules.specs.declared.Auction.{Auction}
 use Rattle.rules.specs.declared.Outbid.{Outbid}
 use Rattle.rules.specs.declared.Calculated.{Calculated}
-use Rattle.rules.specs.declared.Calculation.TheVariants as calculation
-use Rattle.rules.specs.Answers.{outcome, said, answer_of, calculation_said, unless_refused, closed, stopped}
+use Rattle.rules.specs.Answers.{outcome, said, answer_of, calculation_said, unless_refused, closed, stopped, refusal_of}
 use Rattle.rules.specs.Settings.{settings_fit, setup, setup_of}
 use Rattle.laws.specs.OneCall.{StandsIn, RefusedSame, FiledOnly, PriceBy, CutOnly, CutPrice}
 use Rattle.rules.specs.Held.{excess}
@@ -91,8 +91,8 @@ module _ (s : List ℕ) (l : length s ≡ state_length) (z : all_zero s ≡ true
 
   -- "all zero as issued": it does not stand, bids are not open, and the auction is not closed
   pub issued_not_standing : (stands (loaded s) ≡ false) × ((c : List ℕ) → file_number s c ≡ 3) × (count_number s ≡ 3)
-      × ((draw : List ℕ) (os : List Chosen) → calculate_number s draw os ≡ 3)
-      × ((draw : List ℕ) (os : List Chosen) (order : List ℕ) → plain_number s draw os order ≡ 3)
+      × ((draw : List ℕ) (os : List Override) → calculate_number s draw os ≡ 3)
+      × ((draw : List ℕ) (os : List Override) (order : List ℕ) → plain_number s draw os order ≡ 3)
       × ((targets caps : List Tranches) → cutback_number s targets caps ≡ 3) × ((b : ℕ) → report_number s b ≡ 3) × (result_number s ≡ 16)
   issued_not_standing =
       let e = eq-eqb (length s) state_length l in
@@ -102,8 +102,8 @@ module _ (s : List ℕ) (l : length s ≡ state_length) (z : all_zero s ≡ true
 
 -- a state of the wrong length is answered 1 by every call
 pub wrong_length : (s : List ℕ) → (length s ≡ state_length → ⊥) → ((x : Settings) → open_number s x ≡ 1) × ((c : List ℕ) → file_number s c ≡ 1)
-    × (count_number s ≡ 1) × ((draw : List ℕ) (os : List Chosen) → calculate_number s draw os ≡ 1)
-    × ((draw : List ℕ) (os : List Chosen) (order : List ℕ) → plain_number s draw os order ≡ 1)
+    × (count_number s ≡ 1) × ((draw : List ℕ) (os : List Override) → calculate_number s draw os ≡ 1)
+    × ((draw : List ℕ) (os : List Override) (order : List ℕ) → plain_number s draw os order ≡ 1)
     × ((targets caps : List Tranches) → cutback_number s targets caps ≡ 1) × ((b : ℕ) → report_number s b ≡ 1) × (result_number s ≡ 1)
     × (return_number s ≡ 1)
 wrong_length s l =
@@ -113,8 +113,8 @@ wrong_length s l =
 -- "state neither issued nor standing": 2, to an opening 17, and to a return nothing
 pub neither : (s : List ℕ) → length s ≡ state_length → all_zero s ≡ false → stands (loaded s) ≡ false
     → ((x : Settings) → open_number s x ≡ 17) × ((c : List ℕ) → file_number s c ≡ 2) × (count_number s ≡ 2)
-    × ((draw : List ℕ) (os : List Chosen) → calculate_number s draw os ≡ 2)
-    × ((draw : List ℕ) (os : List Chosen) (order : List ℕ) → plain_number s draw os order ≡ 2)
+    × ((draw : List ℕ) (os : List Override) → calculate_number s draw os ≡ 2)
+    × ((draw : List ℕ) (os : List Override) (order : List ℕ) → plain_number s draw os order ≡ 2)
     × ((targets caps : List Tranches) → cutback_number s targets caps ≡ 2) × ((b : ℕ) → report_number s b ≡ 2) × (result_number s ≡ 2) × (return_number s ≡ 0)
 neither s l z n =
     let e = eq-eqb (length s) state_length l in
@@ -128,8 +128,8 @@ unless_same zero new old h = absurd (let x : ⊥ = omega arith in x)
 unless_same (suc k) new old h = rw (ne_eqb (suc k) 0 (λ z. omega arith))
 
 calculate_same : (s : List ℕ) (c : Calculated) (k : ℕ) (t : Bool)
-    → 0 < (calculation_said (cond t (calculation_done c) (outcome (calculation.Refused k) s)).answer).number
-    → (cond t (calculation_done c) (outcome (calculation.Refused k) s)).bytes ≡ s
+    → 0 < (calculation_said (cond t (calculation_done c) (outcome (Err (refusal_of k)) s)).answer).number
+    → (cond t (calculation_done c) (outcome (Err (refusal_of k)) s)).bytes ≡ s
 calculate_same s c k true h = absurd (let x : ⊥ = omega arith in x)
 calculate_same s c k false h = refl
 
@@ -155,11 +155,11 @@ pub file_refused : (s c : List ℕ) → (file_number s c ≡ 0 → ⊥) → (fil
 unfolding file_call
 file_refused s c h = rw (ne_eqb (file_number s c) 0 h)
 
-pub calculate_refused : (s draw : List ℕ) (os : List Chosen) → (calculate_number s draw os ≡ 0 → ⊥) → (calculate_call s draw os).bytes ≡ s
+pub calculate_refused : (s draw : List ℕ) (os : List Override) → (calculate_number s draw os ≡ 0 → ⊥) → (calculate_call s draw os).bytes ≡ s
 unfolding calculate_call
 calculate_refused s draw os h = rw (ne_eqb (calculate_number s draw os) 0 h)
 
-pub plain_refused : (s draw : List ℕ) (os : List Chosen) (order : List ℕ) → (plain_number s draw os order ≡ 0 → ⊥)
+pub plain_refused : (s draw : List ℕ) (os : List Override) (order : List ℕ) → (plain_number s draw os order ≡ 0 → ⊥)
     → (plain_call s draw os order).bytes ≡ s
 unfolding plain_call
 plain_refused s draw os order h = rw (ne_eqb (plain_number s draw os order) 0 h)
@@ -274,21 +274,21 @@ file_bytes s c B = by (eqb (file_number s c) 0)
 
 -- ---- calculate
 
-no_cards_lem : (a : Auction) (os : List Chosen) (o : Outbid) (t u : Bool)
+no_cards_lem : (a : Auction) (os : List Override) (o : Outbid) (t u : Bool)
     → (cond t (at_rest closed a o) (cond u (at_rest stopped a o) (onward os (at_rest closed a o)))).cards.filed ≡ 0
 no_cards_lem a os o true u = refl
 no_cards_lem a os o false true = refl
 no_cards_lem a os o false false = refl
 
 -- no cards are left of a round
-settled_filed : (a : Auction) (os : List Chosen) (o : Outbid) → (settled a os o).cards.filed ≡ 0
+settled_filed : (a : Auction) (os : List Override) (o : Outbid) → (settled a os o).cards.filed ≡ 0
 settled_filed a os o = no_cards_lem a os o (eqb (excess (at_rest closed a o)) 0) (stops (at_rest closed a o))
 
-round_filed : (a : Auction) (draw : List ℕ) (os : List Chosen) → (calculated a draw os).auction.cards.filed ≡ 0
+round_filed : (a : Auction) (draw : List ℕ) (os : List Override) → (calculated a draw os).auction.cards.filed ≡ 0
 unfolding calculated
 round_filed a draw os = settled_filed a os (after_step4 a draw (after_step2 a draw).places)
 
-module _ (s : List ℕ) (S : StandsIn s) (draw : List ℕ) (os : List Chosen) where
+module _ (s : List ℕ) (S : StandsIn s) (draw : List ℕ) (os : List Override) where
   -- a calculation accepted: bids are open, the draw is in order, and every override given is within its limits
   pub calculate_accepts : calculate_number s draw os ≡ 0
       → (is_open (loaded s) ≡ true) × (draw_fits (loaded s).terms.bidders draw ≡ true) × (overrides_fit os ≡ true)
@@ -324,7 +324,7 @@ module _ (s : List ℕ) (S : StandsIn s) (draw : List ℕ) (os : List Chosen) wh
         (round_by (loaded s) draw os (stood s S) (loaded_long s) o.0 o.1 o.2 (bids_accepted (loaded s) (stood s S) o.0))
 
   calculate_by : (t : Bool) → eqb (calculate_number s draw os) 0 ≡ t
-      → StandsIn (cond t (calculation_done (calculated (loaded s) draw os)) (outcome (calculation.Refused (calculate_number s draw os)) s)).bytes
+      → StandsIn (cond t (calculation_done (calculated (loaded s) draw os)) (outcome (Err (refusal_of (calculate_number s draw os))) s)).bytes
   calculate_by true e =
       let k = eqb-true (calculate_number s draw os) 0 e in
       stored_stands (calculated (loaded s) draw os).auction (round_stood k) (round_loads k)

@@ -8,8 +8,7 @@ use borrow.Author.Tests.{eqb-true, eqb-false, ltb-true, ltb-false, not-true}
 use lib.ListN.{length, get_or, length-set}
 use lib.Seq.{get_or-set_same, get_or-set_other}
 use lib.Dec.{eqb, ltb}
-use Rattle.rules.specs.declared.Pick.{Pick}
-use Rattle.rules.specs.declared.Pick.TheVariants.{At, Nobody}
+use Rattle.std.specs.Prelude.{Option, None, Some}
 use Rattle.rules.specs.declared.Tranches.{Tranches}
 use Rattle.rules.specs.declared.Place.{Place}
 use Rattle.rules.specs.declared.Outbid.{Outbid}
@@ -211,13 +210,13 @@ module _ (m n : ℕ) (target : ℕ → ℕ) (tick : ℕ → Bool) (draw : ℕ �
   module _ (s : Outbid) (long : n * 8 ≤ length s.places) (room : n ≤ length s.free) (p : ℕ) (lp : p < m)
       (some : 0 < column kept_of s.places p n) where
     retained_by : ((i : ℕ) → i < n → denied_of (place_at s.places (draw i * 8 + p)) ≤ 0)
-        → (r : Pick) → retained_one n draw s.places p ≡ r
+        → (r : Option ℕ) → retained_one n draw s.places p ≡ r
         → OutStepped m n p s (outbid_retained draw r s p)
-    retained_by z (At i) e =
+    retained_by z (Some i) e =
         let f = best_found (λ i. ltb 0 (retained_of (place_at s.places (draw i * 8 + p)))) _ n i e in
         let l = range i f.0 in
         retained_stepped m n hm s (draw i) p l lp (omega arith) (omega arith) (ltb-true _ _ f.1) _ _ (λ c. refl) refl (omega arith)
-    retained_by z Nobody e =
+    retained_by z None e =
         let k = sum_pos (λ b. kept_of (place_at s.places (b * 8 + p))) n some in
         let r = reach k.0 k.1 in
         let f = best_none (λ i. ltb 0 (retained_of (place_at s.places (draw i * 8 + p)))) _ n e r.0 r.1 in
@@ -225,12 +224,12 @@ module _ (m n : ℕ) (target : ℕ → ℕ) (tick : ℕ → Bool) (draw : ℕ �
         let y = ltb-false 0 (retained_of (place_at s.places (draw r.0 * 8 + p))) f in
         absurd (let x : ⊥ = omega (arith, z r.0 r.1) in x)
 
-    denied_by : (r : Pick) → denied_one n draw s.places p ≡ r → OutStepped m n p s (outbid_by n draw r s p)
-    denied_by (At i) e =
+    denied_by : (r : Option ℕ) → denied_one n draw s.places p ≡ r → OutStepped m n p s (outbid_by n draw r s p)
+    denied_by (Some i) e =
         let f = best_found (λ i. ltb 0 (denied_of (place_at s.places (draw i * 8 + p)))) never n i e in
         let l = range i f.0 in
         denied_stepped m n hm s (draw i) p l lp (omega arith) (omega arith) (ltb-true _ _ f.1)
-    denied_by Nobody e =
+    denied_by None e =
         retained_by (λ i l. ltb-false _ _ (best_none (λ i. ltb 0 (denied_of (place_at s.places (draw i * 8 + p)))) never n e i l))
         (retained_one n draw s.places p) refl
 
@@ -305,9 +304,9 @@ module _ (m n : ℕ) (target : ℕ → ℕ) (tick : ℕ → Bool) (draw : ℕ �
 
   loop_by : (f : ℕ) → Ends f
       → (s : Outbid) → n * 8 ≤ length s.places → n ≤ length s.free → every kept_of s.places n ≤ suc f
-      → (q : Pick) → first_up_to (over n target tick s.places) m ≡ q
+      → (q : Option ℕ) → first_up_to (over n target tick s.places) m ≡ q
       → OutEnded m n target tick s (while_over q (λ p. outbid_loop m n target tick draw f (outbid_step n draw s p)) s)
-  loop_by f go s hl hf h (At p) e =
+  loop_by f go s hl hf h (Some p) e =
       let g = best_found (over n target tick s.places) never m p e in
       let l = g.0 in
       let tp = not-true (tick p) (and_left (not (tick p)) _ g.1) in
@@ -318,7 +317,7 @@ module _ (m n : ℕ) (target : ℕ → ℕ) (tick : ℕ → Bool) (draw : ℕ �
       let s' = outbid_step n draw s p in
       goes s s' (outbid_loop m n target tick draw f s') p l tp ov S
       (go s' (omega (arith, S.long)) (omega (arith, S.long_free)) (omega (arith, S.fuel)))
-  loop_by f go s hl hf h Nobody e = stays s (best_none (over n target tick s.places) never m e)
+  loop_by f go s hl hf h None e = stays s (best_none (over n target tick s.places) never m e)
 
   -- with fuel for every kept tranche, step 4 ends with nothing to outbid
   pub out_ends : (f : ℕ) (s : Outbid) → n * 8 ≤ length s.places → n ≤ length s.free → every kept_of s.places n ≤ f

@@ -6,7 +6,9 @@ use Prim.Native.Nat.{ℕ, zero, suc}
 use native.Mathlib.Omega.{arith}
 use borrow.Author.Tests.{eqb-true, eqb-false}
 use lib.Dec.{eqb}
-use Rattle.rules.specs.declared.Chosen.{Chosen}
+use Rattle.rules.specs.declared.Refusal.{Refusal}
+use Rattle.std.specs.Prelude.{Result}
+use Rattle.rules.specs.Price.{Override}
 use Rattle.rules.specs.declared.Auction.{Auction}
 use Rattle.rules.specs.declared.Calculation.{Calculation}
 use Rattle.rules.specs.Answers.{Outcome, first_number}
@@ -43,13 +45,13 @@ module _ (a : Auction) (S : Stands a) (o : is_open a ≡ true) (draw : List ℕ)
       (draw_range m order O) (draw_reach m order O) (accepted_all a) (keepable a S (bids_accepted a S o))
 
   -- and so the whole calculation
-  pub plain_calculated : (os : List Chosen) → calculated_plain a draw os order ≡ calculated a draw os
+  pub plain_calculated : (os : List Override) → calculated_plain a draw os order ≡ calculated a draw os
   unfolding calculated_plain calculated
   plain_calculated os = ap (after_kept a draw os) plain_step
 
 -- ---- of lent bytes
 
-module _ (s draw : List ℕ) (os : List Chosen) where
+module _ (s draw : List ℕ) (os : List Override) where
   -- a calculation accepted, of any bytes: the auction in them stands, bids are open, and the draw fits
   pub accepts : calculate_number s draw os ≡ 0
       → Stands (loaded s) × (is_open (loaded s) ≡ true) × (draw_fits (loaded s).terms.bidders draw ≡ true)
@@ -97,7 +99,7 @@ module _ (s draw : List ℕ) (os : List Chosen) where
         → P (plain_call s draw os order).bytes
     leaves_by P x y true e =
         let O = (plain_accepts (eqb-true (plain_number s draw os order) 0 e)).1 in
-        subst P (sym (ap (λ (o : Outcome Calculation). o.bytes) (plain_call_lem O))) y
+        subst P (sym (ap (λ (o : Outcome (Result Calculation Refusal)). o.bytes) (plain_call_lem O))) y
     leaves_by P x y false e = subst P (sym (plain_refused s draw os order (eqb-false (plain_number s draw os order) 0 e))) x
 
     -- of any bytes it leaves them as they were, or what calculate leaves

@@ -7,19 +7,15 @@ use native.Mathlib.Omega.{arith}
 use native.Mathlib.Nat.{mul-le-mul_left}
 use borrow.Author.Tests.{eqb-false}
 use lib.Dec.{eqb, leb}
-use Rattle.rules.specs.declared.Pick.{Pick}
-use Rattle.rules.specs.declared.Pick.TheVariants.{At, Nobody}
+use Rattle.std.specs.Prelude.{Option, None, Some, is_some}
 use Rattle.rules.specs.declared.Decrements.{Decrements}
-use Rattle.rules.specs.declared.Override.{Override}
-use Rattle.rules.specs.declared.Override.TheVariants as override
-use Rattle.rules.specs.declared.Chosen.{Chosen}
 use Rattle.rules.specs.declared.Setup.{Setup}
 use Rattle.rules.specs.declared.Auction.{Auction}
-use Rattle.rules.specs.Count.{never, is_at}
+use Rattle.rules.specs.Count.{never}
 use Rattle.rules.specs.Settings.{setup, target_of, percent_of, decrement_of}
 use Rattle.rules.specs.Held.{held, above, above_zero, standing_of}
 use Rattle.rules.specs.Bid.{one_if, price_at, before_at}
-use Rattle.rules.specs.Price.{decrement_up_to, decrement_for, fallen, is_given, override_fits, decrement_by}
+use Rattle.rules.specs.Price.{Override, decrement_up_to, decrement_for, fallen, is_given, override_fits, decrement_by}
 use Rattle.rules.specs.Round.{override_for, overrides_fit, price_next, mark_next, before_next, at_bottom, stops}
 use Rattle.rules.proofs.Sums.{best_none}
 use Rattle.rules.proofs.Lists.{clash, all_take}
@@ -42,8 +38,8 @@ decrement_small t L pct (suc n) h = by (leb (percent_of d n) pct) (L.decrement n
 
 -- "an optional decrement of 1 to 1,000 basis points": none used is above 1,000, the table's or the manager's
 override_small : (o : Override) (d : ℕ) → override_fits o ≡ true → d ≤ 500 → decrement_by o d ≤ 1000
-override_small override.None d e h = omega arith
-override_small (override.Points x) d e h = search told
+override_small None d e h = omega arith
+override_small (Some x) d e h = search told
 
 -- a price of at least 2 falls, and stays at least 1
 pub falls : (p cut : ℕ) → 2 ≤ p → cut ≤ 1000 → (1 ≤ fallen p cut) × (fallen p cut < p)
@@ -53,9 +49,9 @@ pub cond_false : (s u : Bool) → cond s true u ≡ false → (s ≡ false) × (
 cond_false true u e = clash refl e
 cond_false false u e = (refl, e)
 
-nobody : (q : Pick) → is_at q ≡ false → q ≡ Nobody
-nobody (At i) e = clash refl e
-nobody Nobody e = refl
+nobody : (q : Option ℕ) → is_some q ≡ false → q ≡ None
+nobody (Some i) e = clash refl e
+nobody None e = refl
 
 and_false : (s u : Bool) → s ≡ true → (s && u) ≡ false → u ≡ false
 and_false true u e f = f
@@ -71,7 +67,7 @@ pub record Priced (a : Auction) (o : Override) (p x price before mark : ℕ) : T
   pub unmarked : x ≤ target_of (setup a) p → mark ≡ 0
 
 -- of any book at prices of at least 1, with overrides that fit
-module _ (a : Auction) (L : Limits (setup a)) (os : List Chosen) where
+module _ (a : Auction) (L : Limits (setup a)) (os : List Override) where
   abbrev m : ℕ
   m = a.terms.products
 
@@ -132,7 +128,7 @@ module _ (a : Auction) (L : Limits (setup a)) (os : List Chosen) where
 
 -- ---- marks
 
-module _ (a : Auction) (os : List Chosen) (p : ℕ) where
+module _ (a : Auction) (os : List Override) (p : ℕ) where
   -- "an override on a product that isn't above target .. does nothing and isn't reported"
   pub mark_low : held a.records a.terms.bidders p ≤ target_of (setup a) p → mark_next os a p ≡ 0
   mark_low h = by (above (standing_of a p)) refl
@@ -142,7 +138,7 @@ module _ (a : Auction) (os : List Chosen) (p : ℕ) where
       by false f = refl
 
   -- none given, none marked
-  pub mark_none : override_for os p ≡ override.None → mark_next os a p ≡ 0
+  pub mark_none : override_for os p ≡ None → mark_next os a p ≡ 0
   mark_none e = rw e (by (above (standing_of a p)))
     where
       by : (s : Bool) → one_if (s && false) ≡ 0

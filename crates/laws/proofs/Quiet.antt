@@ -8,11 +8,10 @@ use native.Mathlib.Omega.{arith}
 use borrow.Author.Tests.{eqb-true, eqb-false, ltb-true, ltb-false, leb-true, leb-false, le-ltb}
 use lib.ListN.{get_or-replicate}
 use lib.Dec.{eqb, ltb, leb}
-use Rattle.rules.specs.declared.Pick.{Pick}
-use Rattle.rules.specs.declared.Pick.TheVariants.{At, Nobody}
+use Rattle.std.specs.Prelude.{Option, None, Some}
+use Rattle.rules.specs.Price.{Override}
 use Rattle.rules.specs.declared.Place.{Place}
 use Rattle.rules.specs.declared.Outbid.{Outbid}
-use Rattle.rules.specs.declared.Chosen.{Chosen}
 use Rattle.rules.specs.declared.Auction.{Auction}
 use Rattle.rules.specs.Count.{sum_up_to, first_up_to, never}
 use Rattle.rules.specs.Units.{tranches}
@@ -76,7 +75,7 @@ module _ (a : Auction) (S : Stands a) where
 
 -- ---- one calculation
 
-module _ (a : Auction) (draw : List ℕ) (os : List Chosen) (S : Stands a) (L : Long a) (op : is_open a ≡ true)
+module _ (a : Auction) (draw : List ℕ) (os : List Override) (S : Stands a) (L : Long a) (op : is_open a ≡ true)
     (D : draw_fits a.terms.bidders draw ≡ true) (O : overrides_fit os ≡ true) (A : AllAccepted a) where
   abbrev m : ℕ
   m = a.terms.products
@@ -231,11 +230,11 @@ module _ (a : Auction) (draw : List ℕ) (os : List Chosen) (S : Stands a) (L : 
   abbrev over : ℕ → Bool
   over p = ltb (target_of (setup a) p) (held z.records n p)
 
-  open_by : is_open z ≡ true → (r : Pick) → first_up_to over m ≡ r → Moves a z ⊎ Quiet z
-  open_by e (At p) f =
+  open_by : is_open z ≡ true → (r : Option ℕ) → first_up_to over m ≡ r → Moves a z ⊎ Quiet z
+  open_by e (Some p) f =
       let g = best_found over never m p f in
       inl (inl (p, g.0, ((round_prices a draw os S L op D O A p g.0).fell e (ltb-true _ _ g.1)).0))
-  open_by e Nobody f =
+  open_by e None f =
       inr (record {
         bidding = e;
         none_above = λ p hp.

@@ -6,10 +6,10 @@ use Prim.Native.Nat.{ℕ, ◌+◌, ◌*◌, ◌%◌, ◌≤◌, ◌<◌}
 use native.Mathlib.Omega.{arith}
 use borrow.Author.Tests.{ltb-true, ltb-false}
 use lib.Dec.{ltb}
+use Rattle.rules.specs.Price.{Override}
 use Rattle.rules.specs.declared.Place.{Place}
 use Rattle.rules.specs.declared.Outbid.{Outbid}
 use Rattle.rules.specs.declared.Auction.{Auction}
-use Rattle.rules.specs.declared.Chosen.{Chosen}
 use Rattle.rules.specs.Count.{sum_up_to}
 use Rattle.rules.specs.Answers.{closed}
 use Rattle.rules.specs.Settings.{setup, target_of}
@@ -30,7 +30,7 @@ use Rattle.laws.proofs.Booked.{Booked, kept_end, out_end, trail, unticked, booke
 use Rattle.laws.specs.OneCall.{PriceAfter, PriceBy, LotsAfter}
 use Rattle.laws.proofs.Settled.{Closes, settled_stands, settled_long, settled_prices, settled_by_whom, settled_closes, settled_setup, settled_held, settled_kept, settled_record, settled_eligibility}
 
-module _ (a : Auction) (draw : List ℕ) (os : List Chosen) (S : Stands a) (L : Long a) (op : is_open a ≡ true)
+module _ (a : Auction) (draw : List ℕ) (os : List Override) (S : Stands a) (L : Long a) (op : is_open a ≡ true)
     (D : draw_fits a.terms.bidders draw ≡ true) (O : overrides_fit os ≡ true) (A : AllAccepted a) where
   B : Booked a (after_step4 a draw (after_step2 a draw).places)
   B = booked a draw S L op D A

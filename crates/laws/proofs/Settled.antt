@@ -11,7 +11,6 @@ use lib.Dec.{eqb, ltb}
 use Rattle.rules.specs.declared.Record.{Record}
 use Rattle.rules.specs.declared.Lane.{Lane}
 use Rattle.rules.specs.declared.Outbid.{Outbid}
-use Rattle.rules.specs.declared.Chosen.{Chosen}
 use Rattle.rules.specs.declared.Auction.{Auction}
 use Rattle.rules.specs.Count.{sum_up_to}
 use Rattle.rules.specs.Answers.{bids_open, closed, stopped}
@@ -22,7 +21,7 @@ use Rattle.rules.specs.Card.{no_line, line_zero}
 use Rattle.rules.specs.Lots.{lots_zero, ExitsFit}
 use Rattle.rules.specs.Held.{nothing, going_in, denied_in, retained_in, held_in, kept_in, record_at, held, above_zero, standing_of, free_of, eligibility, excess}
 use Rattle.rules.specs.Bid.{one_if, bid_in, record_of, price_at, before_at, on_product, slot_of, bid_on}
-use Rattle.rules.specs.Price.{decrement_for, fallen, is_given, decrement_by}
+use Rattle.rules.specs.Price.{Override, decrement_for, fallen, is_given, decrement_by}
 use Rattle.rules.specs.Accept.{place_at, held_of, kept_of, column, row_of}
 use Rattle.rules.specs.Round.{override_for, overrides_fit, booked, at_rest, price_next, mark_next, before_next, onward, at_bottom, stops, settled}
 use Rattle.rules.specs.Legal.{kept_on, is_open, record_zero, slot_stands, phase_stands}
@@ -52,7 +51,7 @@ zero_back : (r : Record) → NoRecord r → record_zero r ≡ true
 zero_back r N =
     both (eq-eqb _ _ N.going) (both (eq-eqb _ _ N.denied) (ap lots_zero N.lots))
 
-module _ (a : Auction) (os : List Chosen) (o : Outbid) where
+module _ (a : Auction) (os : List Override) (o : Outbid) where
   abbrev m : ℕ
   m = a.terms.products
 

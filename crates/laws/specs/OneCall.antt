@@ -1,8 +1,6 @@
 -- What the laws of one call say, beside the definitions of the calls. Assumes nothing.
 use Rattle.std.specs.Prelude.{◌≡◌, true, false, ◌⊎◌, List, ℕ, ◌+◌, ◌-◌, ◌*◌, ◌/◌, ◌%◌, ◌≤◌, ◌<◌, min, length, get_or}
 use Rattle.rules.specs.declared.Tranches.{Tranches}
-use Rattle.rules.specs.declared.Override.{Override}
-use Rattle.rules.specs.declared.Chosen.{Chosen}
 use Rattle.rules.specs.declared.Line.{Line}
 use Rattle.rules.specs.declared.Settings.{Settings}
 use Rattle.rules.specs.declared.Auction.{Auction}
@@ -13,7 +11,7 @@ use Rattle.rules.specs.Lots.{Ordered, Beginning, AllWithin}
 use Rattle.rules.specs.Held.{going_in, denied_in, held, ticked, free_of, eligibility, excess}
 use Rattle.rules.specs.Bid.{one_if, has_filed, slot_of, record_of, price_at, before_at, mark_at, bid_on}
 use Rattle.rules.specs.Accept.{place_at}
-use Rattle.rules.specs.Price.{decrement_for, fallen, is_given, decrement_by}
+use Rattle.rules.specs.Price.{Override, decrement_for, fallen, is_given, decrement_by}
 use Rattle.rules.specs.Round.{after_step2}
 use Rattle.rules.specs.Cutback.{given_for, revised}
 use Rattle.rules.specs.Layout.{products_from, bidders_from, rows_from, records_from, bids_from, loaded, product_width, bidder_width, row_width, record_width, line_width, state_length}
@@ -41,9 +39,9 @@ pub record SpareZero (s : List ℕ) : Type 0 where
 pub record RefusedSame (s : List ℕ) : Type 0 where
   pub opening : (x : Settings) → 0 < (answer_of (open_call s x).answer).number → (open_call s x).bytes ≡ s
   pub filing : (c : List ℕ) → 0 < (answer_of (file_call s c).answer).number → (file_call s c).bytes ≡ s
-  pub calculating : (draw : List ℕ) (os : List Chosen) → 0 < (calculation_said (calculate_call s draw os).answer).number
+  pub calculating : (draw : List ℕ) (os : List Override) → 0 < (calculation_said (calculate_call s draw os).answer).number
       → (calculate_call s draw os).bytes ≡ s
-  pub ordering : (draw : List ℕ) (os : List Chosen) (order : List ℕ) → 0 < (calculation_said (plain_call s draw os order).answer).number
+  pub ordering : (draw : List ℕ) (os : List Override) (order : List ℕ) → 0 < (calculation_said (plain_call s draw os order).answer).number
       → (plain_call s draw os order).bytes ≡ s
   pub cutting : (targets caps : List Tranches) → 0 < (answer_of (cutback_call s targets caps).answer).number
       → (cutback_call s targets caps).bytes ≡ s

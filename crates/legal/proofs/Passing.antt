@@ -14,7 +14,6 @@ use Rattle.rules.specs.Held.{held_in, kept_in, record_at, held, place}
 use Rattle.rules.specs.Bid.{record_of, price_at, before_at}
 use Rattle.rules.specs.Legal.{record_zero, record_within, record_stands}
 use Rattle.rules.proofs.Lists.{all_give, all_take}
-use Rattle.held.proofs.Passed.{Passed, none_passed, one_passed}
 
 abbrev pub stands_on : Auction → ℕ → ℕ → Bool
 stands_on a p b = record_stands a (place b p)
@@ -34,28 +33,30 @@ module _ (a : Auction) (p b : ℕ) (h : p < 8) where
       let d : (b * 8 + p) / 8 ≡ b = omega arith in
       rw (d, le-ltb _ _ l, er)
 
--- what the loop over the bidders knows after the first b of n
-pub record Part (a : Auction) (p n b x y : ℕ) (ok : Bool) : Type 0 where
-  pub passed : Passed (stands_on a p) n b ok
+-- what the loop over the bidders knows after the first b of them
+pub record Part (a : Auction) (p b x y : ℕ) (ok : Bool) : Type 0 where
+  pub passed : ok ≡ all_up_to (stands_on a p) b
   pub held : x ≡ held a.records b p
   pub few : x ≤ 393210 * b
   pub kept : y ≡ sum_up_to (λ b. kept_in (record_of a b p)) b
   pub small : y ≤ 327675 * b
 
-module _ {a : Auction} {p n : ℕ} where
-  pub none_yet : Part a p n 0 0 0 true
-  none_yet = record { passed = none_passed; held = refl; few = omega arith; kept = refl; small = omega arith }
+module _ {a : Auction} {p : ℕ} where
+  pub none_yet : Part a p 0 0 0 true
+  unfolding all_up_to
+  none_yet = record { passed = refl; held = refl; few = omega arith; kept = refl; small = omega arith }
 
-  pub one_yet : {b x y u v : ℕ} {ok t : Bool} {r : Record} → Part a p n b x y ok → b < n → r ≡ record_at a.records (place b p)
+  pub one_yet : {b x y u v : ℕ} {ok t : Bool} {r : Record} → Part a p b x y ok → r ≡ record_at a.records (place b p)
       → (u ≡ held_in r) × (u ≤ 393210) → (v ≡ kept_in r) × (v ≤ 327675) → t ≡ stands_on a p b
-      → Part a p n (b + 1) (x + u) (y + v) (ok && t)
-  one_yet {b} {x} {y} {u} {v} h l e f g k =
+      → Part a p (b + 1) (x + u) (y + v) (ok && t)
+  unfolding all_up_to
+  one_yet {b} {x} {y} {u} {v} h e f g k =
       let i = h.few in
       let j = h.small in
       let f' = f.1 in
       let g' = g.1 in
       record {
-        passed = one_passed h.passed l k;
+        passed = rw add-one (ap₂ ◌&&◌ h.passed k);
         held = rw add-one (ap₂ ◌+◌ h.held (f.0 ∙ ap held_in e));
         few = omega arith;
         kept = rw add-one (ap₂ ◌+◌ h.kept (g.0 ∙ ap kept_in e));

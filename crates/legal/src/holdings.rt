@@ -10,6 +10,7 @@ ghost use Rattle.held.specs.Sums.{Counted};
 ghost use Rattle.legal.specs.Pass.{ColumnOf, ColumnsOf};
 
 use rules::{Price, Record, Tranches};
+use std::array;
 
 fn product_stands(s: &[u8], held: &[u32; 8], kept: &[u32; 8], p: usize) -> bool
     requires { Counted s.now held.now kept.now × (p < 8) }
@@ -39,13 +40,7 @@ pub fn products_stand(s: &[u8], held: &[u32; 8], kept: &[u32; 8]) -> bool
     requires { Counted s.now held.now kept.now }
     ensures { result ≡ all_up_to (product_stands (loaded s.now)) 8 }
 {
-    let mut ok = true;
-    let mut p: usize = 0;
-    while p < 8 {
-        ok = ok & product_stands(s, held, kept, p);
-        p += 1;
-    }
-    ok
+    (0..8usize).all(|p| product_stands(s, held, kept, p))
 }
 
 // "retained exits above p, at most q", lot by lot, "ordered as on a card"; "each bidder within product caps"; past the bidders or products
@@ -80,17 +75,14 @@ fn column_of(s: &[u8], p: usize) -> Column
     let mut held: u32 = 0;
     let mut kept: u32 = 0;
     let mut ok = true;
-    let mut b: usize = 0;
-    while b < n {
+    for b in 0..n {
         let r = book::record(s, b * 8 + p);
         held += r.held();
         kept += r.kept();
         ok = ok & record_stands(used, price, before, cap, r);
-        b += 1;
     }
-    while b < 32 {
+    for b in n..32 {
         ok = ok & book::record(s, b * 8 + p).is_zero();
-        b += 1;
     }
     Column {
         held,
@@ -111,18 +103,12 @@ pub fn columns_of(s: &[u8]) -> Columns
     requires { Lent s.now }
     ensures { ColumnsOf (loaded s.now) result }
 {
-    let mut held = [0u32; 8];
-    let mut kept = [0u32; 8];
-    let mut stand = true;
-    let mut p: usize = 0;
-    while p < 8 {
-        let c = column_of(s, p);
-        held[p] = c.held;
-        kept[p] = c.kept;
-        stand = stand & c.stands;
-        p += 1;
+    let columns: [Column; 8] = array::from_fn(|p| column_of(s, p));
+    Columns {
+        held: columns.map(|c| c.held),
+        kept: columns.map(|c| c.kept),
+        stand: columns.iter().all(|c| c.stands),
     }
-    Columns { held, kept, stand }
 }
 
 // "and, with f, within initial eligibility"
@@ -136,11 +122,9 @@ fn bidder_stands(s: &[u8], b: usize) -> bool
     }
     let m = book::products(s);
     let mut sum: u32 = 0;
-    let mut p: usize = 0;
-    while p < m {
+    for p in 0..m {
         let own = book::record(s, b * 8 + p);
         sum += own.held();
-        p += 1;
     }
     let most = book::initial(s, b);
     sum + f.0 as u32 <= most.0 as u32
@@ -150,11 +134,5 @@ pub fn bidders_stand(s: &[u8]) -> bool
     requires { Lent s.now }
     ensures { result ≡ all_up_to (bidder_stands (loaded s.now)) 32 }
 {
-    let mut ok = true;
-    let mut b: usize = 0;
-    while b < 32 {
-        ok = ok & bidder_stands(s, b);
-        b += 1;
-    }
-    ok
+    (0..32usize).all(|b| bidder_stands(s, b))
 }

@@ -14,6 +14,7 @@ ghost use Rattle.held.specs.Sums.{Summed};
 ghost use Rattle.bids.specs.Tally.{Judging};
 
 use rules::Line;
+use std::array;
 
 // "filed cards pass 6 to 13", and a slot that is not filed is 0, as the lines past the products are
 fn slot_stands(s: &[u8], ticks: &[u8; 8], b: usize) -> bool
@@ -22,20 +23,12 @@ fn slot_stands(s: &[u8], ticks: &[u8; 8], b: usize) -> bool
 {
     let filed = book::has_filed(s, b);
     let m = book::products(s);
-    let none = Line::none();
-    let mut lines = [none; 8];
-    let mut zero = true;
-    let mut p: usize = 0;
-    while p < 8 {
-        let l = book::line(s, b * 8 + p);
-        lines[p] = l;
-        zero = zero & ((filed & (p < m)) | l.is_zero());
-        p += 1;
-    }
+    let lines: [Line; 8] = array::from_fn(|p| book::line(s, b * 8 + p));
+    let zero = (0..8usize).all(|p| (filed & (p < m)) | lines[p].is_zero());
     if !filed {
         return zero;
     }
-    (b < book::bidders(s)) & ((bids::judge(s, ticks, b, lines) == 0) & zero)
+    (b < book::bidders(s)) & (bids::judge(s, ticks, b, lines).is_ok() & zero)
 }
 
 fn slots_stand(s: &[u8], held: &[u32; 8]) -> bool
@@ -43,13 +36,7 @@ fn slots_stand(s: &[u8], held: &[u32; 8]) -> bool
     ensures { result ≡ all_up_to (slot_stands (loaded s.now)) 32 }
 {
     let ticks = held::ticks_by(s, held);
-    let mut ok = true;
-    let mut b: usize = 0;
-    while b < 32 {
-        ok = ok & slot_stands(s, &ticks, b);
-        b += 1;
-    }
-    ok
+    (0..32usize).all(|b| slot_stands(s, &ticks, b))
 }
 
 fn body_stands(s: &[u8]) -> bool

@@ -11,28 +11,12 @@ fn as_opened(s: &[u8]) -> bool
     requires { Long s.now }
     ensures { result ≡ as_opened (loaded s.now) }
 {
-    let mut records = true;
-    let mut k: usize = 0;
-    while k < 256 {
-        records = records & book::record(s, k).is_zero();
-        k += 1;
-    }
-    let mut free = true;
-    let mut b: usize = 0;
-    while b < 32 {
-        let f = book::free(s, b);
-        let e = book::initial(s, b);
-        free = free & (f.0 == e.0);
-        b += 1;
-    }
-    let mut prices = true;
-    let mut p: usize = 0;
-    while p < 8 {
+    let records = (0..256usize).all(|k| book::record(s, k).is_zero());
+    let free = (0..32usize).all(|b| book::free(s, b).0 == book::initial(s, b).0);
+    let prices = (0..8usize).all(|p| {
         let start = book::start(s, p).amount();
-        prices = prices
-            & ((book::price(s, p).amount() == start) & (book::before(s, p).amount() == start));
-        p += 1;
-    }
+        (book::price(s, p).amount() == start) & (book::before(s, p).amount() == start)
+    });
     records & (free & prices)
 }
 
@@ -42,13 +26,7 @@ fn nothing_kept(s: &[u8], kept: &[u32; 8]) -> bool
     ensures { result ≡ nothing_kept (loaded s.now) }
 {
     let m = book::products(s);
-    let mut ok = true;
-    let mut p: usize = 0;
-    while p < m {
-        ok = ok & (kept[p] == 0);
-        p += 1;
-    }
-    ok
+    (0..m).all(|p| kept[p] == 0)
 }
 
 pub fn phase_stands(s: &[u8], held: &[u32; 8], kept: &[u32; 8]) -> bool

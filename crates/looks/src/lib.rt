@@ -2,10 +2,10 @@
 #![tactic(auto)]
 
 use asked::{Numbers, One, ends, groups, one_byte, one_number, two_bytes};
-use calls::{bytes_of, card_length, not_written, other_length, put_card, refused};
+use calls::{bytes_of, card_length, not_written, put_card, refused, unready};
 use check::same;
 use layout::STATE;
-use rules::{Answer, Award, Card, Count, Line, Report, Volume};
+use rules::Line;
 use store::{Kind, number_on};
 use text::{ANSWER, Cursor, put, put_named, word};
 use view::put_refused;
@@ -30,17 +30,13 @@ fn to_file(
     state: &[u8; STATE],
     out: &mut [u8; ANSWER],
 ) -> Asked {
-    let more = ends(line, c, out);
-    if more != 0 {
-        return Asked::Said(more);
-    }
-    let wrong = other_length(kind, state, out);
+    let wrong = unready(line, c, kind, state, out);
     if wrong != 0 {
         return Asked::Said(wrong);
     }
     match console::count(state) {
-        Count::ToFile(n) => Asked::ToFile(n),
-        Count::Refused(n) => Asked::Said(refused(n, state, out)),
+        Ok(n) => Asked::ToFile(n),
+        Err(e) => Asked::Said(refused(e.number(), state, out)),
     }
 }
 
@@ -124,8 +120,9 @@ fn suggest_for(bid: u32, line: &[u8], c: Cursor, out: &mut [u8; ANSWER]) -> usiz
                 return more;
             }
             match console::suggested_volume(bid, ratio) {
-                Volume::Suggested(n) => put_number(out, n),
-                Volume::Refused(n) => {
+                Ok(n) => put_number(out, n),
+                Err(e) => {
+                    let n = e.number();
                     let a = put_refused(out, n);
                     let b = remark::of_volume(out, a, n, bid, ratio);
                     put(out, b, b"\n")
@@ -157,8 +154,8 @@ fn report_refused(n: u8, bidder: u8, state: &[u8; STATE], out: &mut [u8; ANSWER]
 fn report_on(bidder: u8, state: &[u8; STATE], out: &mut [u8; ANSWER]) -> usize {
     let given = console::report(state, bidder);
     let report = given.report;
-    if let Report::Refused(n) = report {
-        return report_refused(n, bidder, state, out);
+    if let Err(e) = report {
+        return report_refused(e.number(), bidder, state, out);
     }
     view::report(out, state, bidder as usize, given)
 }
@@ -167,12 +164,8 @@ fn report_on(bidder: u8, state: &[u8; STATE], out: &mut [u8; ANSWER]) -> usize {
 fn put_reports(state: &[u8; STATE], out: &mut [u8; ANSWER]) -> usize {
     let n = book::bidders(state);
     let mut to = put_number(out, n as u32);
-    let mut b: usize = 0;
-    while b < 32 {
-        if b < n {
-            to = view::put_reported(out, to, state, b, console::report(state, b as u8));
-        }
-        b += 1;
+    for b in 0..n.min(32) {
+        to = view::put_reported(out, to, state, b, console::report(state, b as u8));
     }
     to
 }
@@ -180,8 +173,8 @@ fn put_reports(state: &[u8; STATE], out: &mut [u8; ANSWER]) -> usize {
 // `report all`
 fn report_all(state: &[u8; STATE], out: &mut [u8; ANSWER]) -> usize {
     let report = console::report(state, 0).report;
-    if let Report::Refused(n) = report {
-        return report_refused(n, 0, state, out);
+    if let Err(e) = report {
+        return report_refused(e.number(), 0, state, out);
     }
     put_reports(state, out)
 }
@@ -196,11 +189,7 @@ fn report_to(
 ) -> usize {
     match one_number(line, c, out) {
         One::Number(b, next) => {
-            let more = ends(line, next, out);
-            if more != 0 {
-                return more;
-            }
-            let wrong = other_length(kind, state, out);
+            let wrong = unready(line, next, kind, state, out);
             if wrong != 0 {
                 return wrong;
             }
@@ -218,16 +207,11 @@ fn report(
     out: &mut [u8; ANSWER],
 ) -> usize {
     let span = word(line, c);
-    let a = span.from;
     let e = span.to;
-    if !same(&line[a..e], b"all") {
+    if !same(&line[span.from..e], b"all") {
         return report_to(line, c, kind, state, out);
     }
-    let more = ends(line, Cursor { at: e }, out);
-    if more != 0 {
-        return more;
-    }
-    let wrong = other_length(kind, state, out);
+    let wrong = unready(line, Cursor { at: e }, kind, state, out);
     if wrong != 0 {
         return wrong;
     }
@@ -241,18 +225,14 @@ fn result(
     state: &[u8; STATE],
     out: &mut [u8; ANSWER],
 ) -> usize {
-    let more = ends(line, c, out);
-    if more != 0 {
-        return more;
-    }
-    let wrong = other_length(kind, state, out);
+    let wrong = unready(line, c, kind, state, out);
     if wrong != 0 {
         return wrong;
     }
     let given = console::result(state);
     let award = given.award;
-    if let Award::Refused(n) = award {
-        return refused(n, state, out);
+    if let Err(e) = award {
+        return refused(e.number(), state, out);
     }
     view::result(out, state, given)
 }
@@ -275,10 +255,7 @@ fn read(line: &[u8], c: Cursor, out: &mut [u8; ANSWER]) -> usize {
         One::Number(products, next) => {
             let mut card = [0u8; 1024];
             match asked::card(line, next, &mut card, out) {
-                Numbers::Found(k) => {
-                    let bytes = bytes_of(card);
-                    read_part(&bytes, k, products as usize, out)
-                }
+                Numbers::Found(k) => read_bytes(&card[..k.min(1024)], products as usize, out),
                 Numbers::Said(n) => n,
             }
         }
@@ -289,19 +266,13 @@ fn read(line: &[u8], c: Cursor, out: &mut [u8; ANSWER]) -> usize {
 fn read_bytes(card: &[u8], products: usize, out: &mut [u8; ANSWER]) -> usize {
     let got = console::read(card, products);
     let answer = got.card;
-    if let Card::Refused(n) = answer {
+    if let Err(e) = answer {
+        let n = e.number();
         let a = put_refused(out, n);
         let b = remark::of_read(out, a, n, card, products);
         return put(out, b, b"\n");
     }
     view::bid(out, got, products)
-}
-
-fn read_part(card: &[u8], k: usize, products: usize, out: &mut [u8; ANSWER]) -> usize {
-    if k <= card.len() {
-        return read_bytes(&card[0..k], products, out);
-    }
-    read_bytes(card, products, out)
 }
 
 // A bid of so many products, as a card.
@@ -317,11 +288,11 @@ fn write_card(
     let k = card_length(products);
     let mut room = [0u8; 1024];
     match console::write(&mut room[0..k], products, b, r, lines) {
-        Answer::Done => {
+        Ok(()) => {
             let card = bytes_of(room);
             put_card(out, &card[0..k])
         }
-        Answer::Refused(n) => not_written(n, products, b, r, lines, out),
+        Err(e) => not_written(e.number(), products, b, r, lines, out),
     }
 }
 
@@ -356,6 +327,10 @@ fn write(line: &[u8], c: Cursor, out: &mut [u8; ANSWER]) -> usize {
     }
 }
 
+fn no_command(out: &mut [u8; ANSWER], at: usize) -> usize {
+    text::wrong(out, b"no such command; help lists them", at)
+}
+
 // `help`, `help COMMAND`
 fn help_on(line: &[u8], c: Cursor, out: &mut [u8; ANSWER]) -> usize {
     let span = word(line, c);
@@ -368,31 +343,10 @@ fn help_on(line: &[u8], c: Cursor, out: &mut [u8; ANSWER]) -> usize {
     if more != 0 {
         return more;
     }
-    let n = help::put_help(out, &line[a..e]);
-    if n != 0 {
-        return n;
+    match help::put_help(out, &line[a..e]) {
+        Some(n) => n,
+        None => no_command(out, a),
     }
-    text::wrong(out, b"no such command; help lists them", a)
-}
-
-// The commands that need no state.
-fn look_up(w: &[u8], at: usize, line: &[u8], c: Cursor, out: &mut [u8; ANSWER]) -> usize {
-    if same(w, b"suggest") {
-        return suggest(line, c, out);
-    }
-    if same(w, b"read") {
-        return read(line, c, out);
-    }
-    if same(w, b"write") {
-        return write(line, c, out);
-    }
-    if same(w, b"help") {
-        return help_on(line, c, out);
-    }
-    if same(w, b"?") {
-        return help_on(line, c, out);
-    }
-    text::wrong(out, b"no such command; help lists them", at)
 }
 
 // A command that changes nothing, by its word, which stands at a place.
@@ -405,23 +359,17 @@ pub fn look(
     state: &[u8; STATE],
     out: &mut [u8; ANSWER],
 ) -> usize {
-    if same(w, b"count") {
-        return count(line, c, kind, state, out);
+    match w {
+        b"count" => count(line, c, kind, state, out),
+        b"missing" => missing(line, c, kind, state, out),
+        b"filed" => filed(line, c, kind, state, out),
+        b"report" => report(line, c, kind, state, out),
+        b"result" => result(line, c, kind, state, out),
+        b"show" => show(line, c, kind, state, out),
+        b"suggest" => suggest(line, c, out),
+        b"read" => read(line, c, out),
+        b"write" => write(line, c, out),
+        b"help" | b"?" => help_on(line, c, out),
+        _ => no_command(out, at),
     }
-    if same(w, b"missing") {
-        return missing(line, c, kind, state, out);
-    }
-    if same(w, b"filed") {
-        return filed(line, c, kind, state, out);
-    }
-    if same(w, b"report") {
-        return report(line, c, kind, state, out);
-    }
-    if same(w, b"result") {
-        return result(line, c, kind, state, out);
-    }
-    if same(w, b"show") {
-        return show(line, c, kind, state, out);
-    }
-    look_up(w, at, line, c, out)
 }

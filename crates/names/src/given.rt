@@ -1,35 +1,15 @@
 // A name given in words: `bidder 0 Alpha`, `product 2 ACE`, as a command and as a line of the file beside the box.
 ghost use Rattle.std.specs.Prelude.{◌≤◌, length};
 
-use crate::{LONGEST, NAMES, Whose, bidder_of, give, product_of};
+use crate::{BIDDERS, LONGEST, NAMES, PRODUCTS, Whose, found, give};
 use asked::{One, one_number};
-use check::same;
 use text::{ANSWER, Cursor, control_at, word, wrong, wrong_number};
 
 // The place after the last byte that is no space.
 fn trimmed(line: &[u8]) -> usize
     ensures { result ≤ length line.now }
 {
-    let mut n = line.len();
-    while 0 < n {
-        if 32 < line[n - 1] {
-            return n;
-        }
-        n -= 1;
-    }
-    n
-}
-
-// The place of the first bracket, which would end the name where it is shown; or the name's length.
-fn bracket(name: &[u8]) -> usize {
-    let mut i = 0;
-    while i < name.len() {
-        if (name[i] == b'(') | (name[i] == b')') {
-            return i;
-        }
-        i += 1;
-    }
-    i
+    line.iter().rposition(|b| 32 < *b).map_or(0, |k| k + 1)
 }
 
 // Whose name a line gives, the place of the number, and where the name stands; `said` is the length of the error where something is wrong,
@@ -55,111 +35,62 @@ fn wrongly(said: usize) -> Naming {
     }
 }
 
-// What is wrong with a name that begins at a place: the length of the error, or 0.
-fn unfit(name: &[u8], at: usize, out: &mut [u8; ANSWER]) -> usize {
+// What is wrong with a name that begins at a place, as the length of the error.
+fn fit(name: &[u8], at: usize, out: &mut [u8; ANSWER]) -> Result<(), usize> {
     if LONGEST < name.len() {
-        return wrong_number(out, b"a name has at most ", LONGEST as u64, b" bytes", at);
+        return Err(wrong_number(out, b"a name has at most ", LONGEST as u64, b" bytes", at));
     }
-    if bracket(name) < name.len() {
-        return wrong(out, b"a name has no brackets", at);
+    // A bracket would end the name where it is shown.
+    if name.iter().any(|b| (*b == b'(') | (*b == b')')) {
+        return Err(wrong(out, b"a name has no brackets", at));
     }
-    0
+    Ok(())
 }
 
-// The name is the rest of the line.
-fn name_after(
+// `B NAME` or `P NAME`. The name is the rest of the line.
+fn after_kind(
     line: &[u8],
     c: Cursor,
     bidder: bool,
-    number: u32,
-    at: usize,
     out: &mut [u8; ANSWER],
-) -> Naming {
-    let a = word(line, c).from;
-    let e = trimmed(line);
-    if e <= a {
-        return wrongly(wrong(out, b"a name is missing", line.len()));
+) -> Result<Naming, usize> {
+    let at = word(line, c).from;
+    let (number, next) = match one_number(line, c, out) {
+        One::Number(n, next) => (n, next),
+        One::Said(n) => return Err(n),
+    };
+    let from = word(line, next).from;
+    let to = trimmed(line);
+    if to <= from {
+        return Err(wrong(out, b"a name is missing", line.len()));
     }
-    Naming {
-        said: unfit(&line[a..e], a, out),
+    fit(&line[from..to], from, out)?;
+    Ok(Naming {
+        said: 0,
         bidder,
         number,
         at,
-        from: a,
-        to: e,
-    }
-}
-
-fn after_kind(line: &[u8], c: Cursor, bidder: bool, out: &mut [u8; ANSWER]) -> Naming {
-    let at = word(line, c).from;
-    match one_number(line, c, out) {
-        One::Number(n, next) => name_after(line, next, bidder, n, at, out),
-        One::Said(n) => wrongly(n),
-    }
+        from,
+        to,
+    })
 }
 
 // `bidder B NAME` or `product P NAME`.
 pub fn asked_for(line: &[u8], c: Cursor, out: &mut [u8; ANSWER]) -> Naming {
     let span = word(line, c);
-    let a = span.from;
-    let e = span.to;
-    let next = Cursor { at: e };
-    if same(&line[a..e], b"bidder") {
-        return after_kind(line, next, true, out);
+    let next = Cursor { at: span.to };
+    let given = match &line[span.from..span.to] {
+        b"bidder" => after_kind(line, next, true, out),
+        b"product" => after_kind(line, next, false, out),
+        _ => Err(wrong(out, b"name is for a bidder or a product", span.from)),
+    };
+    match given {
+        Ok(naming) => naming,
+        Err(said) => wrongly(said),
     }
-    if same(&line[a..e], b"product") {
-        return after_kind(line, next, false, out);
-    }
-    wrongly(wrong(out, b"name is for a bidder or a product", a))
 }
 
 // ---- The name given
-
-fn to_bidder(
-    names: &mut [u8; NAMES],
-    b: usize,
-    bidders: usize,
-    name: &[u8],
-    given: Naming,
-    out: &mut [u8; ANSWER],
-) -> usize {
-    if bidders <= b {
-        let last = std::num::wrapping_sub_u64(bidders as u64, 1);
-        return wrong_number(out, b"bidders are 0 to ", last, b"", given.at);
-    }
-    let other = bidder_of(names, name);
-    if (other < 32) & (other != b) {
-        return wrong_number(out, b"bidder ", other as u64, b" has this name", given.from);
-    }
-    give(names, Whose::Bidder(b), name);
-    0
-}
-
-fn to_product(
-    names: &mut [u8; NAMES],
-    p: usize,
-    products: usize,
-    name: &[u8],
-    given: Naming,
-    out: &mut [u8; ANSWER],
-) -> usize {
-    if products <= p {
-        let last = std::num::wrapping_sub_u64(products as u64, 1);
-        return wrong_number(out, b"products are 0 to ", last, b"", given.at);
-    }
-    let other = product_of(names, name);
-    if (other < 8) & (other != p) {
-        return wrong_number(
-            out,
-            b"product ",
-            other as u64,
-            b" has this name",
-            given.from,
-        );
-    }
-    give(names, Whose::Product(p), name);
-    0
-}
 
 fn take_name(
     names: &mut [u8; NAMES],
@@ -169,10 +100,39 @@ fn take_name(
     given: Naming,
     out: &mut [u8; ANSWER],
 ) -> usize {
-    if given.bidder {
-        return to_bidder(names, given.number as usize, bidders, name, given, out);
+    let n = given.number as usize;
+    let (whose, count, numbers, one, other) = if given.bidder {
+        let other = found(names, 0, BIDDERS, name);
+        (
+            Whose::Bidder(n),
+            bidders,
+            "bidders are 0 to ",
+            "bidder ",
+            other,
+        )
+    } else {
+        let other = found(names, BIDDERS, PRODUCTS, name);
+        (
+            Whose::Product(n),
+            products,
+            "products are 0 to ",
+            "product ",
+            other,
+        )
+    };
+    if count <= n {
+        let last = (count as u64).wrapping_sub(1);
+        return wrong_number(out, numbers.as_bytes(), last, b"", given.at);
     }
-    to_product(names, given.number as usize, products, name, given, out)
+    match other {
+        Some(k) if k != n => {
+            wrong_number(out, one.as_bytes(), k as u64, b" has this name", given.from)
+        }
+        _ => {
+            give(names, whose, name);
+            0
+        }
+    }
 }
 
 // Gives a name that a line says, in an auction of so many bidders and products: 0, or the length of the error in the answer. `-` takes the
@@ -185,18 +145,11 @@ pub fn take(
     names: &mut [u8; NAMES],
     out: &mut [u8; ANSWER],
 ) -> usize {
-    let a = given.from;
-    let e = given.to;
-    if line.len() < e {
-        return 0;
+    match line.get(given.from..given.to) {
+        None => 0,
+        Some([b'-']) => take_name(names, bidders, products, b"", given, out),
+        Some(name) => take_name(names, bidders, products, name, given, out),
     }
-    if e < a {
-        return 0;
-    }
-    if same(&line[a..e], b"-") {
-        return take_name(names, bidders, products, b"", given, out);
-    }
-    take_name(names, bidders, products, &line[a..e], given, out)
 }
 
 // ---- The file beside the box
@@ -222,20 +175,6 @@ fn is_taken(
     take(line, name, bidders, products, names, out) == 0
 }
 
-fn line_end(bytes: &[u8], from: usize) -> usize
-    requires { from ≤ length bytes.now }
-    ensures { (from ≤ result) × (result ≤ length bytes.now) }
-{
-    let mut i = from;
-    while i < bytes.len() {
-        if bytes[i] == b'\n' {
-            return i;
-        }
-        i += 1;
-    }
-    i
-}
-
 // Gives every name that the file has: 0, or the number of the first line that gives none and is passed over.
 pub fn take_file(
     bytes: &[u8],
@@ -244,21 +183,11 @@ pub fn take_file(
     names: &mut [u8; NAMES],
     out: &mut [u8; ANSWER],
 ) -> u64 {
-    let mut first: u64 = 0;
-    let mut line: u64 = 1;
-    let mut from = 0;
-    while from < bytes.len() {
-        let e = line_end(bytes, from);
-        if !is_taken(&bytes[from..e], bidders, products, names, out) {
-            if first == 0 {
-                first = line;
-            }
+    let mut first = 0;
+    for (i, line) in bytes.split(|b| *b == b'\n').enumerate() {
+        if !is_taken(line, bidders, products, names, out) && first == 0 {
+            first = (i as u64).wrapping_add(1);
         }
-        line = std::num::wrapping_add_u64(line, 1);
-        if bytes.len() <= e {
-            return first;
-        }
-        from = e + 1;
     }
     first
 }

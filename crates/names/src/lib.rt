@@ -1,11 +1,10 @@
 // Names of bidders and products, which stand beside their numbers in every answer. No call knows them.
 #![tactic(auto)]
 
-ghost use Rattle.std.specs.Prelude.{◌<◌, ◌≤◌, length};
+ghost use Rattle.std.specs.Prelude.{◌+◌, ◌≤◌, length};
 
 mod given;
 
-use check::same;
 pub use given::{Naming, asked_for, take, take_file};
 use text::{ANSWER, put, put_named};
 use view::{BIDDER, PRODUCT};
@@ -39,73 +38,44 @@ fn place_of(whose: Whose) -> usize
     ensures { result ≤ 1248 }
 {
     match whose {
-        Whose::Bidder(b) => {
-            if b < BIDDERS {
-                return b * PLACE;
-            }
-            0
-        }
-        Whose::Product(p) => {
-            if p < PRODUCTS {
-                return (BIDDERS + p) * PLACE;
-            }
-            0
-        }
+        Whose::Bidder(b) if b < BIDDERS => b * PLACE,
+        Whose::Product(p) if p < PRODUCTS => (BIDDERS + p) * PLACE,
+        _ => 0,
     }
 }
 
-fn length_at(names: &[u8; NAMES], at: usize) -> usize
+// The name at a place, empty where there is none.
+fn name_at(names: &[u8; NAMES], at: usize) -> &[u8]
     requires { at ≤ 1248 }
-    ensures { result ≤ 24 }
+    ensures { length result.now ≤ 24 }
 {
-    let n = byte_at(names, at) as usize;
-    if n <= LONGEST {
-        return n;
-    }
-    0
+    let n = names[at] as usize;
+    let end = if n <= LONGEST { at + 1 + n } else { at + 1 };
+    &names[at + 1..end]
 }
 
 // How long a name is, 0 where there is none, and its bytes one by one.
 pub fn length_of(names: &[u8; NAMES], whose: Whose) -> usize
     ensures { result ≤ 24 }
 {
-    length_at(names, place_of(whose))
+    name_at(names, place_of(whose)).len()
 }
 
 pub fn byte_of(names: &[u8; NAMES], whose: Whose, i: usize) -> u8 {
-    let at = place_of(whose);
     if i < LONGEST {
-        return byte_at(names, at + 1 + i);
+        return names[place_of(whose) + 1 + i];
     }
     0
 }
 
-// The name at a place, put after what stands before it.
-fn put_at(out: &mut [u8; ANSWER], to: usize, names: &[u8; NAMES], at: usize) -> usize
-    requires { at ≤ 1248 }
-{
-    let n = length_at(names, at);
-    put_part(out, to, names, at + 1, at + 1 + n)
-}
-
-fn put_part(out: &mut [u8; ANSWER], to: usize, bytes: &[u8], from: usize, end: usize) -> usize {
-    if bytes.len() < end {
-        return to;
-    }
-    if end < from {
-        return to;
-    }
-    put(out, to, &bytes[from..end])
-}
-
 // ` (NAME)`, where there is one.
 fn put_beside(out: &mut [u8; ANSWER], to: usize, names: &[u8; NAMES], whose: Whose) -> usize {
-    let at = place_of(whose);
-    if length_at(names, at) == 0 {
+    let name = name_at(names, place_of(whose));
+    if name.is_empty() {
         return to;
     }
     let a = put(out, to, b" (");
-    let b = put_at(out, a, names, at);
+    let b = put(out, a, name);
     put(out, b, b")")
 }
 
@@ -114,108 +84,36 @@ fn put_beside(out: &mut [u8; ANSWER], to: usize, names: &[u8; NAMES], whose: Who
 // Gives a name of at most LONGEST bytes; an empty one takes the name away.
 pub fn give(names: &mut [u8; NAMES], whose: Whose, name: &[u8]) {
     let at = place_of(whose);
-    names[at] = short_length(name);
-    let mut i = 0;
-    while i < LONGEST {
-        names[at + 1 + i] = byte_at(name, i);
-        i += 1;
-    }
+    let n = name.len().min(LONGEST);
+    names[at] = if name.len() <= LONGEST { n as u8 } else { 0 };
+    names[at + 1..at + 1 + n].copy_from_slice(&name[..n]);
+    names[at + 1 + n..at + 1 + LONGEST].fill(0);
 }
 
-fn short_length(name: &[u8]) -> u8 {
-    if name.len() <= LONGEST {
-        return name.len() as u8;
-    }
-    0
-}
-
-fn byte_at(name: &[u8], i: usize) -> u8 {
-    if i < name.len() {
-        return name[i];
-    }
-    0
-}
-
-fn is_at(names: &[u8; NAMES], at: usize, name: &[u8]) -> bool
-    requires { at ≤ 1248 }
+// Which of some places in a row has this name.
+fn found(names: &[u8; NAMES], first: usize, count: usize, name: &[u8]) -> Option<usize>
+    requires { first + count ≤ 40 }
 {
-    let n = length_at(names, at);
-    is_part(names, at + 1, at + 1 + n, name)
-}
-
-fn is_part(bytes: &[u8], from: usize, end: usize, name: &[u8]) -> bool {
-    if bytes.len() < end {
-        return false;
+    if name.is_empty() {
+        return None;
     }
-    if end < from {
-        return false;
-    }
-    same(&bytes[from..end], name)
+    (0..count).position(|i| name_at(names, (first + i) * PLACE) == name)
 }
 
 // The first bidder of that name, or BIDDERS where none has it.
 pub fn bidder_of(names: &[u8; NAMES], name: &[u8]) -> usize {
-    if name.len() == 0 {
-        return BIDDERS;
-    }
-    let mut b = 0;
-    while b < BIDDERS {
-        if is_at(names, b * PLACE, name) {
-            return b;
-        }
-        b += 1;
-    }
-    b
+    found(names, 0, BIDDERS, name).unwrap_or(BIDDERS)
 }
 
 pub fn product_of(names: &[u8; NAMES], name: &[u8]) -> usize {
-    if name.len() == 0 {
-        return PRODUCTS;
-    }
-    let mut p = 0;
-    while p < PRODUCTS {
-        if is_at(names, (BIDDERS + p) * PLACE, name) {
-            return p;
-        }
-        p += 1;
-    }
-    p
+    found(names, BIDDERS, PRODUCTS, name).unwrap_or(PRODUCTS)
 }
 
 // ---- Names beside the numbers of an answer
 
-fn is_digit(b: u8) -> bool {
-    (b'0' <= b) & (b <= b'9')
-}
-
-// The place after the digits from a place on.
-fn after_digits(out: &[u8], from: usize, n: usize) -> usize
-    requires { (from ≤ n) × (n ≤ length out.now) }
-    ensures { (from ≤ result) × (result ≤ n) }
-{
-    let mut i = from;
-    while i < n {
-        if !is_digit(out[i]) {
-            return i;
-        }
-        i += 1;
-    }
-    i
-}
-
-// The place of the next byte that says whose number follows, or n.
-fn next_mark(out: &[u8], from: usize, n: usize) -> usize
-    requires { (from ≤ n) × (n ≤ length out.now) }
-    ensures { (from ≤ result) × (result ≤ n) }
-{
-    let mut i = from;
-    while i < n {
-        if (out[i] == BIDDER) | (out[i] == PRODUCT) {
-            return i;
-        }
-        i += 1;
-    }
-    i
+// Whether a byte says that the number of a bidder or a product follows.
+fn is_mark(b: u8) -> bool {
+    (b == BIDDER) | (b == PRODUCT)
 }
 
 fn value(digit: u8) -> usize
@@ -225,78 +123,46 @@ fn value(digit: u8) -> usize
 }
 
 // A number of one or two digits; one of more has no name.
-fn number_in(digits: &[u8]) -> usize {
-    match digits.len() {
-        1 => value(digits[0]),
-        2 => value(digits[0]) * 10 + value(digits[1]),
-        _ => 100,
+fn number_in(digits: &[u8]) -> Option<usize> {
+    match digits {
+        [a] => Some(value(*a)),
+        [a, b] => Some(value(*a) * 10 + value(*b)),
+        _ => None,
     }
 }
 
-fn whose_of(mark: u8, n: usize) -> Whose {
-    if mark == BIDDER {
-        return Whose::Bidder(n);
+fn whose_of(mark: u8, digits: &[u8]) -> Option<Whose> {
+    match number_in(digits)? {
+        n if (mark == BIDDER) & (n < BIDDERS) => Some(Whose::Bidder(n)),
+        n if (mark == PRODUCT) & (n < PRODUCTS) => Some(Whose::Product(n)),
+        _ => None,
     }
-    Whose::Product(n)
 }
 
-fn put_whose(
-    shown: &mut [u8; ANSWER],
-    to: usize,
-    names: &[u8; NAMES],
-    mark: u8,
-    digits: &[u8],
-) -> usize {
-    let n = number_in(digits);
-    if mark == BIDDER {
-        if BIDDERS <= n {
-            return to;
-        }
-    } else if PRODUCTS <= n {
-        return to;
-    }
-    put_beside(shown, to, names, whose_of(mark, n))
-}
-
-fn put_all(
-    shown: &mut [u8; ANSWER],
-    out: &[u8],
-    start: usize,
-    n: usize,
-    names: &[u8; NAMES],
-) -> usize
-    requires { (start ≤ n) × (n ≤ length out.now) }
+fn digits_end(bytes: &[u8]) -> usize
+    ensures { result ≤ length bytes.now }
 {
-    let mut to = 0;
-    let mut from = start;
-    while from < n {
-        let mark = next_mark(out, from, n);
-        to = put(shown, to, &out[from..mark]);
-        if mark == n {
-            return to;
-        }
-        let end = after_digits(out, mark + 1, n);
-        to = put(shown, to, &out[mark + 1..end]);
-        to = put_whose(shown, to, names, out[mark], &out[mark + 1..end]);
-        from = end;
-    }
-    to
+    bytes
+        .iter()
+        .position(|b| !b.is_ascii_digit())
+        .unwrap_or(bytes.len())
 }
 
-fn put_within(
-    shown: &mut [u8; ANSWER],
-    out: &[u8],
-    start: usize,
-    n: usize,
-    names: &[u8; NAMES],
-) -> usize {
-    if out.len() < n {
-        return 0;
+fn put_all(shown: &mut [u8; ANSWER], bytes: &[u8], names: &[u8; NAMES]) -> usize {
+    let mut to = 0;
+    let mut rest = bytes;
+    while let Some(at) = rest.iter().position(|b| is_mark(*b)) {
+        to = put(shown, to, &rest[..at]);
+        let mark = rest[at];
+        let after = &rest[at + 1..];
+        let (digits, left) = after.split_at(digits_end(after));
+        to = put(shown, to, digits);
+        if let Some(whose) = whose_of(mark, digits) {
+            to = put_beside(shown, to, names, whose);
+        }
+        rest = left;
     }
-    if n < start {
-        return 0;
-    }
-    put_all(shown, out, start, n, names)
+    put(shown, to, rest)
 }
 
 // The bytes of an answer from one place to another, with each name that is given beside its number: the length of that.
@@ -307,7 +173,10 @@ pub fn put_names(
     n: usize,
     names: &[u8; NAMES],
 ) -> usize {
-    put_within(shown, out, start, n, names)
+    match out.get(start..n) {
+        Some(bytes) => put_all(shown, bytes, names),
+        None => 0,
+    }
 }
 
 // ---- All names, a line each
@@ -317,72 +186,46 @@ fn put_kind(out: &mut [u8; ANSWER], to: usize, i: usize) -> usize {
     if i < BIDDERS {
         return put_named(out, to, b"bidder ", i as u64);
     }
-    put_named(
-        out,
-        to,
-        b"product ",
-        std::num::wrapping_sub_u64(i as u64, BIDDERS as u64),
-    )
+    put_named(out, to, b"product ", (i - BIDDERS) as u64)
 }
 
-fn put_line(out: &mut [u8; ANSWER], to: usize, names: &[u8; NAMES], i: usize) -> usize
-    requires { i < 40 }
-{
-    let at = i * PLACE;
-    if length_at(names, at) == 0 {
-        return to;
-    }
-    let a = put_kind(out, to, i);
-    let b = put(out, a, b" ");
-    let c = put_at(out, b, names, at);
-    put(out, c, b"\n")
-}
-
-// `bidder 0 Alpha`: the lines of the file beside the box.
-pub fn put_file(out: &mut [u8; ANSWER], names: &[u8; NAMES]) -> usize {
-    let mut to = 0;
-    let mut i = 0;
-    while i < BIDDERS + PRODUCTS {
-        to = put_line(out, to, names, i);
-        i += 1;
+// A line for each name, with these words before its number, between number and name, and after the name.
+fn put_lines(
+    out: &mut [u8; ANSWER],
+    start: usize,
+    names: &[u8; NAMES],
+    before: &[u8],
+    between: &[u8],
+    after: &[u8],
+) -> usize {
+    let mut to = start;
+    for i in 0..BIDDERS + PRODUCTS {
+        let name = name_at(names, i * PLACE);
+        if !name.is_empty() {
+            let a = put(out, to, before);
+            let b = put_kind(out, a, i);
+            let c = put(out, b, between);
+            let d = put(out, c, name);
+            to = put(out, d, after);
+        }
     }
     to
 }
 
-pub fn count(names: &[u8; NAMES]) -> u64 {
-    let mut n: u64 = 0;
-    let mut i = 0;
-    while i < BIDDERS + PRODUCTS {
-        if 0 < length_at(names, i * PLACE) {
-            n = std::num::wrapping_add_u64(n, 1);
-        }
-        i += 1;
-    }
-    n
+// `bidder 0 Alpha`: the lines of the file beside the box.
+pub fn put_file(out: &mut [u8; ANSWER], names: &[u8; NAMES]) -> usize {
+    put_lines(out, 0, names, b"", b" ", b"\n")
 }
 
-fn put_shown(out: &mut [u8; ANSWER], to: usize, names: &[u8; NAMES], i: usize) -> usize
-    requires { i < 40 }
-{
-    let at = i * PLACE;
-    if length_at(names, at) == 0 {
-        return to;
-    }
-    let a = put(out, to, b"  ");
-    let b = put_kind(out, a, i);
-    let c = put(out, b, b" (");
-    let d = put_at(out, c, names, at);
-    put(out, d, b")\n")
+pub fn count(names: &[u8; NAMES]) -> u64 {
+    (0..BIDDERS + PRODUCTS)
+        .filter(|i| !name_at(names, *i * PLACE).is_empty())
+        .count() as u64
 }
 
 // `ok N`, and each name beside its number.
 pub fn show(out: &mut [u8; ANSWER], names: &[u8; NAMES]) -> usize {
     let a = put_named(out, 0, b"ok ", count(names));
-    let mut to = put(out, a, b"\n");
-    let mut i = 0;
-    while i < BIDDERS + PRODUCTS {
-        to = put_shown(out, to, names, i);
-        i += 1;
-    }
-    to
+    let b = put(out, a, b"\n");
+    put_lines(out, b, names, b"  ", b" (", b")\n")
 }

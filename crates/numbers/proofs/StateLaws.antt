@@ -1,10 +1,10 @@
 -- What the number of a call lent a state tells of the state. Assumes nothing.
-use mathlib.Core.Path.{◌≡◌, refl, sym, ◌∙◌, subst}
+use mathlib.Core.Path.{◌≡◌, refl, sym, ◌∙◌}
 use mathlib.Core.Bool.{Bool, true, false, cond}
 use mathlib.Core.List.{List}
 use Prim.Native.Nat.{ℕ, zero, suc, ◌<◌}
 use native.Mathlib.Omega.{arith}
-use borrow.Author.Tests.{eqb-true, eq-eqb, ne_eqb}
+use borrow.Author.Tests.{eqb-true}
 use lib.ListN.{length}
 use lib.Dec.{eqb}
 use Rattle.rules.specs.declared.Auction.{Auction}
@@ -40,9 +40,9 @@ passed true false true w x h e = (refl, (refl, (refl, e)))
 passed true false false w x h e = absurd (let z : ⊥ = omega arith in z)
 passed false u v w x h e = absurd (let z : ⊥ = omega arith in z)
 
-pub stood_by : (s : List ℕ) (w : ℕ) (f : Auction → ℕ) → 0 < w → (n : ℕ) → n ≡ of_state s w f → n ≡ 0 → Stood s × (f (loaded s) ≡ 0)
-stood_by s w f h n e z =
-    let p = passed (eqb (length s) state_length) (all_zero s) (stands (loaded s)) w (f (loaded s)) h (sym e ∙ z) in (
+pub stood_by : (s : List ℕ) (w : ℕ) (f : Auction → ℕ) → 0 < w → of_state s w f ≡ 0 → Stood s × (f (loaded s) ≡ 0)
+stood_by s w f h z =
+    let p = passed (eqb (length s) state_length) (all_zero s) (stands (loaded s)) w (f (loaded s)) h z in (
       record {
         long = eqb-true (length s) state_length p.0;
         stood = stands_take (loaded s) p.1.1.0;
@@ -52,8 +52,8 @@ stood_by s w f h n e z =
     )
 
 -- 0: the state stands
-pub standing : (s : List ℕ) (n : ℕ) → n ≡ state_number s → n ≡ 0 → Stood s
-standing s n e z = (stood_by s 3 (λ a. 0) (omega arith) n e z).0
+pub standing : (s : List ℕ) → state_number s ≡ 0 → Stood s
+standing s z = (stood_by s 3 (λ a. 0) (omega arith) z).0
 
 refused_by : (t u v : Bool) (w x : ℕ) → (number t u v 3 0 ≡ 0 → ⊥) → (number t u v 3 0 ≡ 3 → w ≡ 3) → number t u v 3 0 ≡ number t u v w x
 refused_by true true v w x h g = sym (g refl)
@@ -62,9 +62,8 @@ refused_by true false false w x h g = refl
 refused_by false u v w x h g = refl
 
 -- another number is the call's own; 3, of an issued state, only where the call says it too
-pub not_standing : (s : List ℕ) (n w : ℕ) (f : Auction → ℕ) → n ≡ state_number s → (n ≡ 0 → ⊥) → (n ≡ 3 → w ≡ 3) → n ≡ of_state s w f
-not_standing s n w f e h g =
-    e ∙ refused_by (eqb (length s) state_length) (all_zero s) (stands (loaded s)) w (f (loaded s)) (λ z. h (e ∙ z)) (λ z. g (e ∙ z))
+pub not_standing : (s : List ℕ) (w : ℕ) (f : Auction → ℕ) → (state_number s ≡ 0 → ⊥) → (state_number s ≡ 3 → w ≡ 3) → state_number s ≡ of_state s w f
+not_standing s w f h g = refused_by (eqb (length s) state_length) (all_zero s) (stands (loaded s)) w (f (loaded s)) h g
 
 issued_by : (t u v : Bool) (w x : ℕ) → number t u v 3 0 ≡ 3 → w ≡ number t u v w x
 issued_by true true v w x e = refl
@@ -73,8 +72,8 @@ issued_by true false false w x e = absurd (let z : ⊥ = omega arith in z)
 issued_by false u v w x e = absurd (let z : ⊥ = omega arith in z)
 
 -- 3: issued, and the call's number is the one given for that
-pub issued : (s : List ℕ) (n w : ℕ) (f : Auction → ℕ) → n ≡ state_number s → n ≡ 3 → w ≡ of_state s w f
-issued s n w f e z = issued_by (eqb (length s) state_length) (all_zero s) (stands (loaded s)) w (f (loaded s)) (sym e ∙ z)
+pub issued : (s : List ℕ) (w : ℕ) (f : Auction → ℕ) → state_number s ≡ 3 → w ≡ of_state s w f
+issued s w f z = issued_by (eqb (length s) state_length) (all_zero s) (stands (loaded s)) w (f (loaded s)) z
 
 -- what is said of the auction is the call's number
 pub said : (s : List ℕ) → Stood s → (w : ℕ) (f : Auction → ℕ) (n : ℕ) → n ≡ f (loaded s) → n ≡ of_state s w f
@@ -82,28 +81,6 @@ said s S w f n h = h ∙ sym (S.says w f)
 
 -- ---- two numbers, of which the first that applies
 
-first_by : (n next : ℕ) → (n ≡ 0 → ⊥) → n ≡ first_number n next
+pub first_by : (n next : ℕ) → (n ≡ 0 → ⊥) → n ≡ first_number n next
 first_by zero next h = absurd (h refl)
 first_by (suc n) next h = refl
-
-pub first_said : (n k next : ℕ) → n ≡ k → (n ≡ 0 → ⊥) → n ≡ first_number k next
-first_said n k next e h = subst (λ k. n ≡ first_number k next) e (first_by n next h)
-
-pub next_said : (n k next r : ℕ) → n ≡ k → n ≡ 0 → r ≡ next → r ≡ first_number k next
-next_said n k next r e z h = subst (λ k. r ≡ first_number k next) (sym z ∙ e) h
-
--- ---- the tests one by one
-
-module _ (s : List ℕ) where
-  pub state_1 : (length s ≡ state_length → ⊥) → 1 ≡ state_number s
-  state_1 l = rw (ne_eqb (length s) state_length l)
-
-  module _ (l : length s ≡ state_length) where
-    pub state_3 : all_zero s ≡ true → 3 ≡ state_number s
-    state_3 z = rw (eq-eqb (length s) state_length l, z)
-
-    pub state_0 : all_zero s ≡ false → stands (loaded s) ≡ true → 0 ≡ state_number s
-    state_0 z v = rw (eq-eqb (length s) state_length l, z, v)
-
-    pub state_2 : all_zero s ≡ false → stands (loaded s) ≡ false → 2 ≡ state_number s
-    state_2 z v = rw (eq-eqb (length s) state_length l, z, v)

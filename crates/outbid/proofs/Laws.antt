@@ -9,9 +9,8 @@ use native.Mathlib.Nat.{add-zero}
 use lib.ListN.{set, length}
 use lib.Seq.{get_or-set_same, get_or-set_other, set-get_or}
 use lib.Dec.{ltb, eqb}
+use Rattle.std.specs.Prelude.{Option, None, Some}
 use Rattle.rules.specs.declared.Tranches.{Tranches}
-use Rattle.rules.specs.declared.Pick.{Pick}
-use Rattle.rules.specs.declared.Pick.TheVariants.{At, Nobody}
 use Rattle.rules.specs.declared.Place.{Place}
 use Rattle.rules.specs.Count.{pick_if, better, best_up_to, never}
 use Rattle.rules.specs.Units.{tranches}
@@ -46,9 +45,9 @@ deemed_next tick ps work k e = ap (λ w. changed (deem_if (tick (k % 8))) w k) e
 
 -- the same order finds the same
 module _ (has : ℕ → Bool) (s t : ℕ → ℕ → Bool) where
-  better_by : (n : ℕ) (q : Pick) → ((j : ℕ) → q ≡ At j → s n j ≡ t n j) → better has s q n ≡ better has t q n
-  better_by n Nobody h = refl
-  better_by n (At j) h = ap (λ y. pick_if (has n && y) n (At j)) (h j refl)
+  better_by : (n : ℕ) (q : Option ℕ) → ((j : ℕ) → q ≡ Some j → s n j ≡ t n j) → better has s q n ≡ better has t q n
+  better_by n None h = refl
+  better_by n (Some j) h = ap (λ y. pick_if (has n && y) n (Some j)) (h j refl)
 
   best_same : (n : ℕ) → ((i j : ℕ) → i < n → j < n → s i j ≡ t i j) → best_up_to has s n ≡ best_up_to has t n
   best_same zero h = refl
@@ -85,13 +84,13 @@ module _ (n : ℕ) (draw : ℕ → ℕ) (ps : List Place) (p : ℕ) where
 
   -- a denied switch is outbid
   pub record Switch (j : ℕ) : Type 0 where
-    pub first : denied_one n draw ps p ≡ At j
+    pub first : denied_one n draw ps p ≡ Some j
     pub some : 0 < denied_in (place_at ps (draw j * 8 + p)).holds
 
   -- a retained withdrawal is outbid
   pub record Withdrawal (j : ℕ) : Type 0 where
-    pub none : denied_one n draw ps p ≡ Nobody
-    pub first : retained_one n draw ps p ≡ At j
+    pub none : denied_one n draw ps p ≡ None
+    pub first : retained_one n draw ps p ≡ Some j
     pub some : 0 < retained_in (place_at ps (draw j * 8 + p)).holds
 
   module _ (s : Next) (S : Soonest n draw ps p s) where
@@ -102,7 +101,7 @@ module _ (n : ℕ) (draw : ℕ → ℕ) (ps : List Place) (p : ℕ) where
     by_exit =
         best_same retains _ _ n (λ i j l k. turned (exits i) (exits j) (S.small i l) (S.small j k) (ltb (exits j) (exits i)) refl)
 
-    pub soonest_none : s.turn ≡ 4294967297 → (denied_one n draw ps p ≡ Nobody) × (retained_one n draw ps p ≡ Nobody)
+    pub soonest_none : s.turn ≡ 4294967297 → (denied_one n draw ps p ≡ None) × (retained_one n draw ps p ≡ None)
     soonest_none z =
         let w = next_nobody denies retains (λ i. 0) late 1 n apart s S.is z in
         (w.0, sym by_exit ∙ w.1)

@@ -8,9 +8,8 @@ use borrow.Author.Tests.{eqb-true, eqb-false}
 use lib.ListN.{get_or, set, length, length-set, replicate, length-replicate, get_or-replicate}
 use lib.Seq.{get_or-set_same, get_or-set_other}
 use lib.Dec.{eqb, ltb}
+use Rattle.std.specs.Prelude.{Option, None, Some}
 use Rattle.rules.specs.declared.Tranches.{Tranches}
-use Rattle.rules.specs.declared.Pick.{Pick}
-use Rattle.rules.specs.declared.Pick.TheVariants.{At, Nobody}
 use Rattle.rules.specs.declared.Place.{Place}
 use Rattle.rules.specs.declared.Outbid.{Outbid}
 use Rattle.rules.specs.Count.{sum_up_to, first_up_to, never}
@@ -33,12 +32,12 @@ use Rattle.outbid.proofs.Laws.{known_none, known_if}
 -- ---- one turn of the definition
 
 module _ (m n : ℕ) (target : ℕ → ℕ) (tick : ℕ → Bool) (draw : ℕ → ℕ) (s : Outbid) where
-  loop_none : (f : ℕ) → first_up_to (over n target tick s.places) m ≡ Nobody → outbid_loop m n target tick draw f s ≡ s
+  loop_none : (f : ℕ) → first_up_to (over n target tick s.places) m ≡ None → outbid_loop m n target tick draw f s ≡ s
   unfolding outbid_loop
   loop_none zero e = refl
   loop_none (suc f) e = ap (λ q. while_over q (λ p. outbid_loop m n target tick draw f (outbid_step n draw s p)) s) e
 
-  loop_step : (f p : ℕ) → first_up_to (over n target tick s.places) m ≡ At p
+  loop_step : (f p : ℕ) → first_up_to (over n target tick s.places) m ≡ Some p
       → outbid_loop m n target tick draw (suc f) s ≡ outbid_loop m n target tick draw f (outbid_step n draw s p)
   unfolding outbid_loop
   loop_step f p e = ap (λ q. while_over q (λ p. outbid_loop m n target tick draw f (outbid_step n draw s p)) s) e
@@ -93,17 +92,17 @@ module _ (m n : ℕ) (targets ticks order : List ℕ) (ps₀ : List Place) where
     pub some : count + fuel ≤ 83884800
     pub sums : Counted ps held kept n
     pub start_in : start ≤ m
-    pub before : first_up_to (over_by held kept targets ticks) start ≡ Nobody
+    pub before : first_up_to (over_by held kept targets ticks) start ≡ None
     pub known : Known n (drawn order) ps start next
 
-  pub turn_start : (held kept : List ℕ) (fuel : ℕ) → Room ps₀ → Summed ps₀ held kept n fuel
+  pub turn_start : (held kept : List ℕ) (all : ℕ) → Room ps₀ → Summed ps₀ held kept n all → (fuel : ℕ) → fuel ≡ all
       → Turn ps₀ held kept (replicate 32 (tranches 0)) 0 0 nobody fuel
-  turn_start held kept fuel R S = record {
-    same = ap (λ f. rest f (outbid ps₀ (replicate 32 (tranches 0)) 0)) S.every_kept;
+  turn_start held kept all R S fuel e = record {
+    same = ap (λ f. rest f (outbid ps₀ (replicate 32 (tranches 0)) 0)) (e ∙ S.every_kept);
     room = R;
     long = length-replicate 32 (tranches 0);
     free = none_free ps₀ R;
-    some = omega (arith, S.small);
+    some = omega (arith, S.small, e);
     sums = S.sums;
     start_in = omega arith;
     before = refl;
@@ -137,11 +136,11 @@ module _ (w : Loop) where
   abbrev here : Outbid
   here = outbid w.ps w.fs w.count
 
-  abbrev pub first_over : Pick
+  abbrev pub first_over : Option ℕ
   first_over = first_up_to (over_by w.held w.kept w.targets w.ticks) w.m
 
   -- the code looks at what it has counted, the definition counts anew
-  counted : (q : Pick) → first_over ≡ q → first_up_to (over w.n (target_on w.targets) (is_one w.ticks) w.ps) w.m ≡ q
+  counted : (q : Option ℕ) → first_over ≡ q → first_up_to (over w.n (target_on w.targets) (is_one w.ticks) w.ps) w.m ≡ q
   counted q e =
       sym (first_ext (over_by w.held w.kept w.targets w.ticks)
       (over w.n (target_on w.targets) (is_one w.ticks) w.ps) w.m
@@ -157,16 +156,16 @@ module _ (w : Loop) where
     small = λ q l. omega (arith, w.turn.sums.holds.each q l, column_small w.ps w.turn.room w.n q w.draw.few);
   }
 
-  pub turn_none : first_over ≡ Nobody → here ≡ all
+  pub turn_none : first_over ≡ None → here ≡ all
   turn_none e =
-      sym (loop_none w.m w.n (target_on w.targets) (is_one w.ticks) (drawn w.order) here w.fuel (counted Nobody e))
+      sym (loop_none w.m w.n (target_on w.targets) (is_one w.ticks) (drawn w.order) here w.fuel (counted None e))
       ∙ w.turn.same
 
   pub turn_out : w.fuel ≤ 0 → here ≡ all
   turn_out l =
       sym (loop_out w.m w.n (target_on w.targets) (is_one w.ticks) (drawn w.order) here w.fuel l) ∙ w.turn.same
 
-  module _ (p : ℕ) (e : first_over ≡ At p) where
+  module _ (p : ℕ) (e : first_over ≡ Some p) where
     found : (p < w.m) × (over_by w.held w.kept w.targets w.ticks p ≡ true)
     found = best_found (over_by w.held w.kept w.targets w.ticks) never w.m p e
 
@@ -195,7 +194,7 @@ module _ (w : Loop) where
       }
 
       -- the products before p are as they were
-      before : first_up_to (over_by (less_of w.held p o.more) (less_of w.kept p o.more) w.targets w.ticks) p ≡ Nobody
+      before : first_up_to (over_by (less_of w.held p o.more) (less_of w.kept p o.more) w.targets w.ticks) p ≡ None
       before =
           first_ext (over_by (less_of w.held p o.more) (less_of w.kept p o.more) w.targets w.ticks)
           (over_by w.held w.kept w.targets w.ticks) p
@@ -203,23 +202,22 @@ module _ (w : Loop) where
           (get_or-set_other w.held p q _ 0 (λ z. omega arith)) (get_or-set_other w.kept p q _ 0 (λ z. omega arith)))
           ∙ first_before (over_by w.held w.kept w.targets w.ticks) w.m p e
 
-      pub turn_again : 0 < w.fuel
+      pub turn_again : (left : ℕ) → suc left ≡ w.fuel
           → Turn w.m w.n w.targets w.ticks w.order w.ps₀ (set w.ps o.at o.place)
-          (less_of w.held p o.more) (less_of w.kept p o.more) (paid w.fs o) (w.count + o.more) p o.next (w.fuel - 1)
-      turn_again l =
-          let z : suc (w.fuel - 1) ≡ w.fuel = omega arith in
+          (less_of w.held p o.more) (less_of w.kept p o.more) (paid w.fs o) (w.count + o.more) p o.next left
+      turn_again left z =
           let S = w.turn.sums in
           let qs = set w.ps o.at o.place in
           record {
             same =
-                ap (rest w.m w.n w.targets w.ticks w.order w.ps₀ (w.fuel - 1)) (L.makes w.fs w.count)
-                ∙ sym (loop_step w.m w.n (target_on w.targets) (is_one w.ticks) (drawn w.order) here (w.fuel - 1) p
-                (counted (At p) e))
+                ap (rest w.m w.n w.targets w.ticks w.order w.ps₀ left) (L.makes w.fs w.count)
+                ∙ sym (loop_step w.m w.n (target_on w.targets) (is_one w.ticks) (drawn w.order) here left p
+                (counted (Some p) e))
                 ∙ ap (λ f. rest w.m w.n w.targets w.ticks w.order w.ps₀ f here) z ∙ w.turn.same;
             room = L.room;
             long = length-set w.fs o.owner _ ∙ w.turn.long;
             free = L.free w.fs w.turn.long w.turn.free;
-            some = omega (arith, w.turn.some, L.more);
+            some = omega (arith, w.turn.some, L.more, z);
             sums = record {
               holds = sums_less held_of w.ps qs w.n w.held p o.more turn_product S.holds L.held (L.beside held_of);
               keeps = sums_less kept_of w.ps qs w.n w.kept p o.more turn_product S.keeps L.kept (L.beside kept_of);

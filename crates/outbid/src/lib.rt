@@ -14,7 +14,7 @@ ghost use Rattle.table.specs.Room.{Room, Prepared, target_on};
 ghost use Rattle.table.specs.Rows.{places_in};
 ghost use Rattle.outbid.specs.Loss.{Empty, Summed, AsMuch, less_of, over_by, Looking, Timed, Again, Asked, Soonest, Lost};
 
-use rules::{Pick, Place, Record, Tranches};
+use rules::{Place, Record, Tranches};
 use table::{NOTHING, Next, WIDTH};
 
 // ---- Step 3
@@ -36,10 +36,8 @@ pub fn deem_all(ps: &mut [[u32; WIDTH]; 256], ticks: &[u8; 8], bidders: usize)
     ensures { (places_in ps.new ≡ deemed_up_to (is_one ticks.now) (places_in ps.old) (bidders * 8)) × Room (places_in ps.new) }
 {
     let n = bidders * 8;
-    let mut k: usize = 0;
-    while k < n {
+    for k in 0..n {
         deem_at(ps, k, ticks[k % 8]);
-        k += 1;
     }
 }
 
@@ -57,8 +55,7 @@ fn sum_all(
 {
     let n = bidders * 8;
     let mut all: u32 = 0;
-    let mut k: usize = 0;
-    while k < n {
+    for k in 0..n {
         let r = table::record(ps, k);
         let h = r.held();
         let x = r.kept();
@@ -66,7 +63,6 @@ fn sum_all(
         held[p] = held[p] + h;
         kept[p] = kept[p] + x;
         all += x;
-        k += 1;
     }
     all
 }
@@ -95,24 +91,27 @@ fn first_over(
     ticks: &[u8; 8],
     from: usize,
     products: usize,
-) -> Pick
+) -> Option<usize>
     requires { Looking held.now kept.now targets.now ticks.now from products }
     ensures { result ≡ first_up_to (over_by held.now kept.now targets.now ticks.now) products }
 {
-    let mut p = from;
-    while p < products {
+    for p in from..products {
         if is_over(held[p], kept[p], targets[p], ticks[p]) {
-            return Pick::At(p);
+            return Some(p);
         }
-        p += 1;
     }
-    Pick::Nobody
+    None
 }
 
 // ---- The tranche outbid
 
 // Turns, of which the lowest is outbid first: "denied switches first, then the highest exit price".
 const SWITCH: u64 = 0;
+
+const NOBODY: Next = Next {
+    at: 0,
+    turn: NOTHING,
+};
 
 fn turn_of(r: Record) -> u64
     ensures { Timed result r }
@@ -132,10 +131,7 @@ fn known_if(next: Next, sure: bool) -> Next
     if sure {
         return next;
     }
-    Next {
-        at: 0,
-        turn: NOTHING,
-    }
+    NOBODY
 }
 
 // A bidder with another of the same kind and price left is next again: its turn is as it was.
@@ -153,17 +149,12 @@ fn next_turn(ps: &[[u32; WIDTH]; 256], order: &[u8], p: usize, bidders: usize, k
     if known.turn < NOTHING {
         return known;
     }
-    let mut best = Next {
-        at: 0,
-        turn: NOTHING,
-    };
-    let mut i: usize = 0;
-    while i < bidders {
+    let mut best = NOBODY;
+    for i in 0..bidders {
         let b = table::bidder_at(order, i, bidders);
         let r = table::record(ps, b * 8 + p);
         let turn = turn_of(r);
         best = best.sooner(i, turn);
-        i += 1;
     }
     best
 }
@@ -251,14 +242,11 @@ pub fn outbid_all(
     let mut free = [Tranches(0); 32];
     let mut count: u32 = 0;
     let mut from: usize = 0;
-    let mut next = Next {
-        at: 0,
-        turn: NOTHING,
-    };
-    let mut fuel = sum_all(ps, &mut held, &mut kept, bidders);
-    while 0 < fuel {
+    let mut next = NOBODY;
+    let most = sum_all(ps, &mut held, &mut kept, bidders);
+    for _ in 0..most {
         let q = first_over(&held, &kept, targets, ticks, from, products);
-        let Pick::At(p) = q else {
+        let Some(p) = q else {
             return Freed { free, count };
         };
         let known = known_if(next, p == from);
@@ -276,7 +264,6 @@ pub fn outbid_all(
         count += more;
         from = p;
         next = o.next;
-        fuel -= 1;
     }
     Freed { free, count }
 }

@@ -7,15 +7,10 @@ use text::{ANSWER, put};
 
 fn put_heads(out: &mut [u8; ANSWER], at: usize, names: &[u8; NAMES], products: usize) -> usize {
     let mut to = at;
-    let mut p: usize = 0;
-    while p < 8 {
-        if products <= p {
-            return to;
-        }
+    for p in 0..products.min(8) {
         to = put(out, to, b"<th colspan=\"2\">");
         to = put_product(out, to, names, p);
         to = put(out, to, b"<br/>price, held</th>");
-        p += 1;
     }
     to
 }
@@ -30,37 +25,11 @@ fn put_row(
 ) -> usize {
     let numbers = [r as u64, r as u64];
     let mut to = fill(out, at, b"<tr data-brief=\"#\"><th>#</th>", &numbers);
-    let mut p: usize = 0;
-    while p < 8 {
-        if p < products {
-            let pair = [price_at(prices, p, r) as u64, held_at(helds, p, r) as u64];
-            to = fill(out, to, b"<td>#</td><td>#</td>", &pair);
-        }
-        p += 1;
+    for p in 0..products.min(8) {
+        let pair = [price_at(prices, p, r) as u64, held_at(helds, p, r) as u64];
+        to = fill(out, to, b"<td>#</td><td>#</td>", &pair);
     }
     put(out, to, b"</tr>\n")
-}
-
-fn put_rows(
-    rt: &impl Print,
-    out: &mut [u8; ANSWER],
-    at: usize,
-    products: usize,
-    rounds: usize,
-    prices: &[u32; SERIES],
-    helds: &[u16; SERIES],
-) -> usize {
-    let mut to = at;
-    let mut r: usize = 1;
-    while r < ROUNDS {
-        if rounds < r {
-            return to;
-        }
-        to = room(rt, out, to);
-        to = put_row(out, to, products, r, prices, helds);
-        r += 1;
-    }
-    to
 }
 
 pub fn put_brief(
@@ -81,6 +50,9 @@ pub fn put_brief(
     );
     to = put_heads(out, to, names, products);
     to = put(out, to, b"</tr></thead><tbody>\n");
-    to = put_rows(rt, out, to, products, rounds, prices, helds);
+    for r in 1..=rounds.min(ROUNDS - 1) {
+        to = room(rt, out, to);
+        to = put_row(out, to, products, r, prices, helds);
+    }
     put(out, to, b"</tbody></table>\n</section>\n")
 }

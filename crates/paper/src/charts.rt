@@ -1,11 +1,12 @@
 // The charts, in a tenth of a millimetre. A chart of many rounds has at most so many points, spread evenly over them.
-ghost use Rattle.std.specs.Prelude.{◌<◌};
+ghost use Rattle.std.specs.Prelude.{◌<◌, IfSome};
 
 use crate::form::{fill, one, put_price, put_unit, room};
 use crate::series::{SERIES, held_at, price_at};
 use crate::titles::put_product;
 use layout::STATE;
 use names::NAMES;
+use std::array;
 use text::{ANSWER, put};
 
 const MOST: u16 = 400;
@@ -13,36 +14,12 @@ const MOST: u16 = 400;
 // ---- Numbers of a chart
 
 fn plus(a: u64, b: u64) -> u64 {
-    std::num::wrapping_add_u64(a, b)
-}
-
-fn minus(a: u64, b: u64) -> u64 {
-    if a < b {
-        return 0;
-    }
-    a - b
-}
-
-fn larger(a: u64, b: u64) -> u64 {
-    if a < b {
-        return b;
-    }
-    a
-}
-
-fn smaller(a: u64, b: u64) -> u64 {
-    if a < b {
-        return a;
-    }
-    b
+    a.wrapping_add(b)
 }
 
 // How many points show so many rounds.
 fn points_of(rounds: u16) -> u16 {
-    if rounds < MOST {
-        return rounds;
-    }
-    MOST
+    rounds.min(MOST)
 }
 
 // a times b, divided by a third, and 0 where that is 0.
@@ -53,17 +30,13 @@ fn part(a: u32, by: u16, of: u32) -> u64 {
     a as u64 * by as u64 / of as u64
 }
 
-// One less, and 0 of 0.
-fn one_less(n: u16) -> u16 {
-    if n == 0 {
-        return 0;
-    }
-    n - 1
-}
-
 // The round of point i, of n points over so many rounds.
 fn round_of(i: u16, n: u16, rounds: u16) -> u16 {
-    let far = part(i as u32, one_less(rounds), one_less(n) as u32);
+    let far = part(
+        i as u32,
+        rounds.saturating_sub(1),
+        n.saturating_sub(1) as u32,
+    );
     if far < 4095 {
         return far as u16 + 1;
     }
@@ -75,7 +48,7 @@ fn across(r: u16, rounds: u16, width: u16) -> u64 {
     if rounds < 2 {
         return (width / 2) as u64;
     }
-    part(one_less(r) as u32, width, one_less(rounds) as u32)
+    part(r.saturating_sub(1) as u32, width, (rounds - 1) as u32)
 }
 
 // How far from the top a value is: `top` at 0, `base` at the height.
@@ -94,15 +67,11 @@ fn step_of(range: u32, most: u16) -> u32 {
     let steps = [
         1u32, 2, 5, 10, 20, 50, 100, 200, 500, 1000, 2000, 5000, 10000, 20000, 50000,
     ];
-    let mut i: usize = 0;
-    while i < 15 {
-        let step = steps[i];
-        if range as u64 <= part(step, most, 1) {
-            return step;
-        }
-        i += 1;
-    }
-    100000
+    steps
+        .iter()
+        .copied()
+        .find(|step| range as u64 <= part(*step, most, 1))
+        .unwrap_or(100000)
 }
 
 // The scale's lower and upper ends, and the step between its lines.
@@ -117,16 +86,16 @@ fn below(value: u32, step: u32) -> u32 {
     if step == 0 {
         return value;
     }
-    std::num::wrapping_sub_u32(value, value % step)
+    value - value % step
 }
 
 fn scale_of(low: u32, high: u32, most: u16) -> Scale {
-    let range = std::num::wrapping_sub_u32(high, low);
+    let range = high.wrapping_sub(low);
     let step = step_of(range, most);
     let base = below(low, step);
     let mut top = below(high, step);
     if (top < high) | (top == base) {
-        top = std::num::wrapping_add_u32(top, step);
+        top = top.wrapping_add(step);
     }
     Scale { base, top, step }
 }
@@ -169,45 +138,54 @@ fn put_price_line(out: &mut [u8; ANSWER], at: usize, unit: u8, value: u32, scale
     put(out, b, b"</text>\n")
 }
 
-fn put_price_lines(out: &mut [u8; ANSWER], at: usize, unit: u8, scale: Scale) -> usize {
+// A line at each step of the scale.
+fn put_lines<F: FnMut(&mut [u8; ANSWER], usize, u32) -> usize>(
+    out: &mut [u8; ANSWER],
+    at: usize,
+    scale: Scale,
+    most: usize,
+    mut put_line: F,
+) -> usize
+    requires { F.IsAlwaysCallable put_line }
+{
     let mut to = at;
     let mut value = scale.base;
-    let mut i: usize = 0;
-    while i < 12 {
+    for _ in 0..most {
         if scale.top < value {
             return to;
         }
-        to = put_price_line(out, to, unit, value, scale);
-        value = std::num::wrapping_add_u32(value, scale.step);
-        i += 1;
+        to = put_line(out, to, value);
+        value = value.wrapping_add(scale.step);
     }
     to
 }
 
-// Round numbers under a chart: every step-th, and the first.
-fn put_tick(out: &mut [u8; ANSWER], at: usize, x: u64, foot: u64, r: u16) -> usize {
-    let numbers = [x, foot, x, plus(foot, 36), r as u64];
-    fill(
-        out,
-        at,
-        b"<path class=\"a\" d=\"M#,#v8\"/><text class=\"c\" x=\"#\" y=\"#\">#</text>\n",
-        &numbers,
-    )
-}
-
-fn put_price_ticks(out: &mut [u8; ANSWER], at: usize, rounds: u16) -> usize {
+// Round numbers under a chart, each where it stands across: every step-th, and the first.
+fn put_ticks<F: Fn(u16) -> u64>(
+    out: &mut [u8; ANSWER],
+    at: usize,
+    rounds: u16,
+    foot: u64,
+    across: F,
+) -> usize
+    requires { F.IsAlwaysCallable across }
+{
     let step = step_of(rounds as u32, 10);
     let mut to = at;
-    let mut r: u32 = 1;
-    let mut i: usize = 0;
-    while i < 20 {
-        if rounds as u32 >= r {
-            if r < 4096 {
-                to = put_tick(out, to, round_x(r as u16, rounds), FOOT, r as u16);
-            }
+    let mut next: u32 = 1;
+    for _ in 0..20 {
+        if (next <= rounds as u32) & (next < 4096) {
+            let r = next as u16;
+            let x = across(r);
+            let numbers = [x, foot, x, plus(foot, 36), r as u64];
+            to = fill(
+                out,
+                to,
+                b"<path class=\"a\" d=\"M#,#v8\"/><text class=\"c\" x=\"#\" y=\"#\">#</text>\n",
+                &numbers,
+            );
         }
-        r = std::num::wrapping_add_u32(below(r, step), step);
-        i += 1;
+        next = below(next, step).wrapping_add(step);
     }
     to
 }
@@ -239,11 +217,7 @@ fn put_curve(
 ) -> usize {
     let n = points_of(rounds);
     let mut to = at;
-    let mut i: u16 = 0;
-    while i < 400 {
-        if n <= i {
-            return to;
-        }
+    for i in 0..n {
         to = put_price_point(
             out,
             to,
@@ -254,7 +228,6 @@ fn put_curve(
             rounds,
             scale,
         );
-        i += 1;
     }
     to
 }
@@ -269,58 +242,14 @@ fn put_mark(
     rounds: u16,
     scale: Scale,
 ) -> usize {
-    match p {
-        0 | 4 => put_price_point(
-            out,
-            at,
-            b"M#,#m-9,0a9,9 0 1,0 18,0a9,9 0 1,0-18,0z",
-            prices,
-            p,
-            r,
-            rounds,
-            scale,
-        ),
-        1 | 5 => put_price_point(
-            out,
-            at,
-            b"M#,#m-8-8h16v16h-16z",
-            prices,
-            p,
-            r,
-            rounds,
-            scale,
-        ),
-        2 => put_price_point(
-            out,
-            at,
-            b"M#,#m0-11l11,19h-22z",
-            prices,
-            p,
-            r,
-            rounds,
-            scale,
-        ),
-        6 => put_price_point(
-            out,
-            at,
-            b"M#,#m0,11l11-19h-22z",
-            prices,
-            p,
-            r,
-            rounds,
-            scale,
-        ),
-        _ => put_price_point(
-            out,
-            at,
-            b"M#,#m0-12l12,12-12,12-12-12z",
-            prices,
-            p,
-            r,
-            rounds,
-            scale,
-        ),
-    }
+    let form: &[u8] = match p {
+        0 | 4 => b"M#,#m-9,0a9,9 0 1,0 18,0a9,9 0 1,0-18,0z",
+        1 | 5 => b"M#,#m-8-8h16v16h-16z",
+        2 => b"M#,#m0-11l11,19h-22z",
+        6 => b"M#,#m0,11l11-19h-22z",
+        _ => b"M#,#m0-12l12,12-12,12-12-12z",
+    };
+    put_price_point(out, at, form, prices, p, r, rounds, scale)
 }
 
 // Every point has a mark where there are few, and else some six, at other points for each product; the last always has.
@@ -328,7 +257,7 @@ fn is_marked(i: u16, n: u16, p: usize) -> bool {
     if n <= 12 {
         return true;
     }
-    if std::num::wrapping_add_u16(i, 1) == n {
+    if i.wrapping_add(1) == n {
         return true;
     }
     if 8 <= p {
@@ -348,15 +277,10 @@ fn put_marks(
 ) -> usize {
     let n = points_of(rounds);
     let mut to = at;
-    let mut i: u16 = 0;
-    while i < 400 {
-        if n <= i {
-            return to;
-        }
+    for i in 0..n {
         if is_marked(i, n, p) {
             to = put_mark(out, to, prices, p, round_of(i, n, rounds), rounds, scale);
         }
-        i += 1;
     }
     to
 }
@@ -369,31 +293,16 @@ const APART: u64 = 33;
 fn rank(y: [u64; 8], n: usize, p: usize) -> usize
     requires { p < 8 }
 {
-    let mut k: usize = 0;
-    let mut q: usize = 0;
-    while q < 8 {
-        if q < n {
-            if (y[q] < y[p]) | ((y[q] == y[p]) & (q < p)) {
-                k = std::num::wrapping_add_usize(k, 1);
-            }
-        }
-        q += 1;
-    }
-    k
+    (0..n.min(8))
+        .filter(|q| (y[*q] < y[p]) | ((y[*q] == y[p]) & (*q < p)))
+        .count()
 }
 
-// The product whose end is the k-th from above, or 8.
-fn ranked(y: [u64; 8], n: usize, k: usize) -> usize {
-    let mut p: usize = 0;
-    while p < 8 {
-        if p < n {
-            if rank(y, n, p) == k {
-                return p;
-            }
-        }
-        p += 1;
-    }
-    8
+// The product whose end is the k-th from above.
+fn ranked(y: [u64; 8], n: usize, k: usize) -> Option<usize>
+    ensures { IfSome result (λ p. p < 8) }
+{
+    (0..n.min(8)).position(|p| rank(y, n, p) == k)
 }
 
 fn apart(k: usize) -> u64 {
@@ -407,17 +316,13 @@ fn apart(k: usize) -> u64 {
 fn pushed_down(y: [u64; 8], n: usize) -> [u64; 8] {
     let mut placed = y;
     let mut next = TOP;
-    let mut k: usize = 0;
-    while k < 8 {
-        let p = ranked(y, n, k);
-        if p < 8 {
-            let free = larger(y[p], next);
-            let left = apart(std::num::wrapping_sub_usize(std::num::wrapping_sub_usize(n, 1), k));
-            let place = smaller(free, minus(FOOT, left));
+    for k in 0..8 {
+        if let Some(p) = ranked(y, n, k) {
+            let left = apart(n.wrapping_sub(1).wrapping_sub(k));
+            let place = y[p].max(next).min(FOOT.saturating_sub(left));
             placed[p] = place;
             next = plus(place, APART);
         }
-        k += 1;
     }
     placed
 }
@@ -426,16 +331,12 @@ fn pushed_down(y: [u64; 8], n: usize) -> [u64; 8] {
 fn pushed_up(y: [u64; 8], n: usize) -> [u64; 8] {
     let mut placed = y;
     let mut next = FOOT;
-    let mut i: usize = 0;
-    while i < 8 {
-        let k = 7 - i;
-        let p = ranked(y, n, k);
-        if p < 8 {
-            let place = larger(smaller(y[p], next), plus(TOP, apart(k)));
+    for k in (0..8).rev() {
+        if let Some(p) = ranked(y, n, k) {
+            let place = y[p].min(next).max(plus(TOP, apart(k)));
             placed[p] = place;
-            next = minus(place, APART);
+            next = place.saturating_sub(APART);
         }
-        i += 1;
     }
     placed
 }
@@ -444,23 +345,11 @@ fn pushed_up(y: [u64; 8], n: usize) -> [u64; 8] {
 fn spread(y: [u64; 8], n: usize) -> [u64; 8] {
     let lower = pushed_down(y, n);
     let upper = pushed_up(y, n);
-    let mut placed = y;
-    let mut p: usize = 0;
-    while p < 8 {
-        placed[p] = plus(lower[p], upper[p]) / 2;
-        p += 1;
-    }
-    placed
+    array::from_fn(|p| plus(lower[p], upper[p]) / 2)
 }
 
 fn ends_of(prices: &[u32; SERIES], rounds: u16, scale: Scale) -> [u64; 8] {
-    let mut y = [0u64; 8];
-    let mut p: usize = 0;
-    while p < 8 {
-        y[p] = price_y(price_at(prices, p, rounds as usize), scale);
-        p += 1;
-    }
-    y
+    array::from_fn(|p| price_y(price_at(prices, p, rounds as usize), scale))
 }
 
 fn put_label(
@@ -517,27 +406,6 @@ fn put_series(
     put(out, to, b"\"/></g>\n")
 }
 
-fn put_all_series(
-    rt: &impl Print,
-    out: &mut [u8; ANSWER],
-    at: usize,
-    prices: &[u32; SERIES],
-    products: usize,
-    rounds: u16,
-    scale: Scale,
-) -> usize {
-    let mut to = at;
-    let mut p: usize = 0;
-    while p < 8 {
-        if products <= p {
-            return to;
-        }
-        to = put_series(rt, out, to, prices, p, rounds, scale);
-        p += 1;
-    }
-    to
-}
-
 fn put_labels(
     out: &mut [u8; ANSWER],
     at: usize,
@@ -552,11 +420,7 @@ fn put_labels(
     let places = spread(ends, products);
     let x = round_x(rounds, rounds);
     let mut to = at;
-    let mut p: usize = 0;
-    while p < 8 {
-        if products <= p {
-            return to;
-        }
+    for p in 0..products.min(8) {
         to = put_label(
             out,
             to,
@@ -568,40 +432,19 @@ fn put_labels(
             places[p],
             x,
         );
-        p += 1;
     }
     to
 }
 
 // Prices never rise: the highest is one of round 1, the lowest one of the last.
 fn highest(prices: &[u32; SERIES], products: usize) -> u32 {
-    let mut most: u32 = 0;
-    let mut p: usize = 0;
-    while p < 8 {
-        if p < products {
-            let price = price_at(prices, p, 1);
-            if most < price {
-                most = price;
-            }
-        }
-        p += 1;
-    }
-    most
+    (0..products.min(8)).fold(0, |most, p| most.max(price_at(prices, p, 1)))
 }
 
 fn lowest(prices: &[u32; SERIES], products: usize, rounds: u16) -> u32 {
-    let mut least: u32 = 100000;
-    let mut p: usize = 0;
-    while p < 8 {
-        if p < products {
-            let price = price_at(prices, p, rounds as usize);
-            if price < least {
-                least = price;
-            }
-        }
-        p += 1;
-    }
-    least
+    (0..products.min(8)).fold(100000, |least, p| {
+        least.min(price_at(prices, p, rounds as usize))
+    })
 }
 
 pub fn put_price_chart(
@@ -627,7 +470,9 @@ pub fn put_price_chart(
     );
     to = put_unit(out, to, unit);
     to = put(out, to, b"</text>\n");
-    to = put_price_lines(out, to, unit, scale);
+    to = put_lines(out, to, scale, 12, |out, to, value| {
+        put_price_line(out, to, unit, value, scale)
+    });
     let numbers = [LEFT, TOP, FOOT, RIGHT, RIGHT];
     to = fill(
         out,
@@ -635,8 +480,10 @@ pub fn put_price_chart(
         b"<path class=\"a\" d=\"M#,#V#H#\"/><text class=\"r\" x=\"#\" y=\"770\">round</text>\n",
         &numbers,
     );
-    to = put_price_ticks(out, to, rounds);
-    to = put_all_series(rt, out, to, prices, products, rounds, scale);
+    to = put_ticks(out, to, rounds, FOOT, |r| round_x(r, rounds));
+    for p in 0..products.min(8) {
+        to = put_series(rt, out, to, prices, p, rounds, scale);
+    }
     to = put_labels(out, to, names, unit, prices, products, rounds, scale);
     put(out, to, b"</svg>\n")
 }
@@ -666,36 +513,25 @@ fn bar_x(i: u16, n: u16) -> u64 {
 
 // The middle of a round's bar.
 fn middle(r: u16, rounds: u16) -> u64 {
-    let halves = one_less(r) as u32 * 2 + 1;
+    let halves = r.saturating_sub(1) as u32 * 2 + 1;
     plus(HELD_LEFT, part(halves, HELD_WIDTH, rounds as u32 * 2))
 }
 
 fn most_held(helds: &[u16; SERIES], p: usize, rounds: u16) -> u32 {
-    let mut most: u32 = 0;
-    let mut r: usize = 1;
-    while r < 4096 {
-        if rounds as usize >= r {
-            let held = held_at(helds, p, r);
-            if most < held {
-                most = held;
-            }
-        }
-        r += 1;
-    }
-    most
+    (1..=rounds as usize).fold(0, |most, r| most.max(held_at(helds, p, r)))
 }
 
 // Few bars stand apart, with what is held over each.
 fn put_bar(out: &mut [u8; ANSWER], at: usize, i: u16, n: u16, held: u32, scale: Scale) -> usize {
     let x = bar_x(i, n);
-    let next = bar_x(std::num::wrapping_add_u16(i, 1), n);
-    let slot = minus(next, x);
+    let next = bar_x(i.wrapping_add(1), n);
+    let slot = next.saturating_sub(x);
     let gap = if n <= 60 { slot / 6 } else { 0 };
     let numbers = [
         plus(x, gap),
         HELD_FOOT,
         held_y(held, scale),
-        minus(slot, plus(gap, gap)),
+        slot.saturating_sub(plus(gap, gap)),
         HELD_FOOT,
     ];
     fill(out, at, b"M#,#V#h#V#", &numbers)
@@ -711,14 +547,9 @@ fn put_bars(
 ) -> usize {
     let n = points_of(rounds);
     let mut to = at;
-    let mut i: u16 = 0;
-    while i < 400 {
-        if n <= i {
-            return to;
-        }
+    for i in 0..n {
         let r = round_of(i, n, rounds);
         to = put_bar(out, to, i, n, held_at(helds, p, r as usize), scale);
-        i += 1;
     }
     to
 }
@@ -732,15 +563,11 @@ fn put_counts(
     scale: Scale,
 ) -> usize {
     let mut to = at;
-    let mut r: u16 = 1;
-    while r < 15 {
-        if rounds < r {
-            return to;
-        }
+    for r in 1..=rounds.min(14) {
         let held = held_at(helds, p, r as usize);
         let numbers = [
             middle(r, rounds),
-            minus(held_y(held, scale), 8),
+            held_y(held, scale).saturating_sub(8),
             held as u64,
         ];
         to = fill(
@@ -749,55 +576,26 @@ fn put_counts(
             b"<text class=\"c\" x=\"#\" y=\"#\">#</text>\n",
             &numbers,
         );
-        r += 1;
     }
     to
 }
 
-fn put_held_lines(out: &mut [u8; ANSWER], at: usize, scale: Scale) -> usize {
-    let mut to = at;
-    let mut value = scale.base;
-    let mut i: usize = 0;
-    while i < 8 {
-        if scale.top < value {
-            return to;
-        }
-        let y = held_y(value, scale);
-        let numbers = [
-            HELD_LEFT,
-            y,
-            HELD_RIGHT,
-            HELD_LEFT - 10,
-            plus(y, 9),
-            value as u64,
-        ];
-        to = fill(
-            out,
-            to,
-            b"<path class=\"g\" d=\"M#,#H#\"/><text class=\"r\" x=\"#\" y=\"#\">#</text>\n",
-            &numbers,
-        );
-        value = std::num::wrapping_add_u32(value, scale.step);
-        i += 1;
-    }
-    to
-}
-
-fn put_held_ticks(out: &mut [u8; ANSWER], at: usize, rounds: u16) -> usize {
-    let step = step_of(rounds as u32, 10);
-    let mut to = at;
-    let mut r: u32 = 1;
-    let mut i: usize = 0;
-    while i < 20 {
-        if rounds as u32 >= r {
-            if r < 4096 {
-                to = put_tick(out, to, middle(r as u16, rounds), HELD_FOOT, r as u16);
-            }
-        }
-        r = std::num::wrapping_add_u32(below(r, step), step);
-        i += 1;
-    }
-    to
+fn put_held_line(out: &mut [u8; ANSWER], at: usize, value: u32, scale: Scale) -> usize {
+    let y = held_y(value, scale);
+    let numbers = [
+        HELD_LEFT,
+        y,
+        HELD_RIGHT,
+        HELD_LEFT - 10,
+        plus(y, 9),
+        value as u64,
+    ];
+    fill(
+        out,
+        at,
+        b"<path class=\"g\" d=\"M#,#H#\"/><text class=\"r\" x=\"#\" y=\"#\">#</text>\n",
+        &numbers,
+    )
 }
 
 // The target, and before a cutback what it was in round 1.
@@ -846,7 +644,7 @@ fn put_held_chart(
     let first = book::target(opened, p).0 as u32;
     let target = book::target(s, p).0 as u32;
     let most = most_held(helds, p, rounds);
-    let scale = scale_of(0, if most < first { first } else { most }, 4);
+    let scale = scale_of(0, most.max(first), 4);
     let mut to = room(rt, out, at);
     to = one(
         out,
@@ -856,13 +654,15 @@ fn put_held_chart(
     );
     to = put_product(out, to, names, p);
     to = put(out, to, b"</text>\n");
-    to = put_held_lines(out, to, scale);
+    to = put_lines(out, to, scale, 8, |out, to, value| {
+        put_held_line(out, to, value, scale)
+    });
     to = put(out, to, b"<path class=\"b\" d=\"");
     to = put_bars(out, to, helds, p, rounds, scale);
     to = put(out, to, b"\"/>\n");
     let numbers = [HELD_LEFT, HELD_TOP, HELD_FOOT, HELD_RIGHT];
     to = fill(out, to, b"<path class=\"a\" d=\"M#,#V#H#\"/>\n", &numbers);
-    to = put_held_ticks(out, to, rounds);
+    to = put_ticks(out, to, rounds, HELD_FOOT, |r| middle(r, rounds));
     to = put_target(out, to, first, target, rounds, scale);
     if rounds < 15 {
         to = put_counts(out, to, helds, p, rounds, scale);
@@ -882,12 +682,8 @@ pub fn put_held_charts(
 ) -> usize {
     let n = book::products(s);
     let mut to = put(out, at, b"<div class=\"pair\">\n");
-    let mut p: usize = 0;
-    while p < 8 {
-        if p < n {
-            to = put_held_chart(rt, out, to, names, opened, s, p, rounds, helds);
-        }
-        p += 1;
+    for p in 0..n.min(8) {
+        to = put_held_chart(rt, out, to, names, opened, s, p, rounds, helds);
     }
     put(out, to, b"</div>\n")
 }

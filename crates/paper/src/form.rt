@@ -1,7 +1,5 @@
 // Pieces of the page, put into a lent array that is written out where it fills. A page that cannot be written is at a place past the
 // array's end from there on, where nothing more is put.
-ghost use Rattle.std.specs.Prelude.{◌≤◌, length};
-
 use text::{ANSWER, put, put_named, send};
 
 // ---- What is gathered, written out
@@ -36,36 +34,18 @@ pub fn room(rt: &impl Print, out: &[u8; ANSWER], at: usize) -> usize {
 
 // ---- Pieces with numbers
 
-// The next place of a mark, or the form's length.
-fn next_mark(form: &[u8], from: usize) -> usize
-    requires { from ≤ length form.now }
-    ensures { (from ≤ result) × (result ≤ length form.now) }
-{
-    let mut i = from;
-    while i < form.len() {
-        if form[i] == b'#' {
-            return i;
-        }
-        i += 1;
-    }
-    i
-}
-
 // Puts a form, with the next number in decimal in place of each `#`.
 pub fn fill(out: &mut [u8; ANSWER], at: usize, form: &[u8], numbers: &[u64]) -> usize {
     let mut to = at;
-    let mut from = 0;
-    let mut i = 0;
-    while i < numbers.len() {
-        let mark = next_mark(form, from);
-        if form.len() <= mark {
-            return put(out, to, &form[from..mark]);
-        }
-        to = put_named(out, to, &form[from..mark], numbers[i]);
-        from = mark + 1;
-        i += 1;
+    let mut rest = form;
+    for n in numbers {
+        let Some(mark) = rest.iter().position(|b| *b == b'#') else {
+            break;
+        };
+        to = put_named(out, to, &rest[..mark], *n);
+        rest = &rest[mark + 1..];
     }
-    put(out, to, &form[from..])
+    put(out, to, rest)
 }
 
 // A form of one number.
@@ -86,33 +66,22 @@ pub fn plural(out: &mut [u8; ANSWER], at: usize, n: u64) -> usize {
 
 // A byte as HTML has it. Control characters are left out.
 pub fn escape(out: &mut [u8; ANSWER], at: usize, b: u8) -> usize {
-    if b < 32 {
-        return at;
-    }
     match b {
+        0..=31 | 127 => at,
         b'&' => put(out, at, b"&amp;"),
         b'<' => put(out, at, b"&lt;"),
         b'>' => put(out, at, b"&gt;"),
         b'"' => put(out, at, b"&quot;"),
-        127 => at,
-        _ => {
-            let one = [b; 1];
-            put(out, at, &one)
-        }
+        _ => put(out, at, &[b]),
     }
 }
 
 // The bytes after the last slash.
 pub fn put_file_name(out: &mut [u8; ANSWER], at: usize, path: &[u8]) -> usize {
+    let from = path.iter().rposition(|b| *b == b'/').map_or(0, |i| i + 1);
     let mut to = at;
-    let mut i = 0;
-    while i < path.len() {
-        if path[i] == b'/' {
-            to = at;
-        } else {
-            to = escape(out, to, path[i]);
-        }
-        i += 1;
+    for b in &path[from..] {
+        to = escape(out, to, *b);
     }
     to
 }

@@ -9,42 +9,24 @@ pub const ROUNDS: usize = 4096;
 // Of each product a run of rounds.
 pub const SERIES: usize = 8 * ROUNDS;
 
-pub fn price_at(prices: &[u32; SERIES], p: usize, r: usize) -> u32 {
-    if 8 <= p {
-        return 0;
+// What is known of a round of a product.
+fn known<T: Copy>(series: &[T; SERIES], p: usize, r: usize) -> Option<T> {
+    if (p < 8) & (r < ROUNDS) {
+        return Some(series[p * ROUNDS + r]);
     }
-    if ROUNDS <= r {
-        return 0;
-    }
-    prices[p * ROUNDS + r]
+    None
 }
 
-fn wide(n: u16) -> u32 {
-    n as u32
+pub fn price_at(prices: &[u32; SERIES], p: usize, r: usize) -> u32 {
+    known(prices, p, r).unwrap_or(0)
 }
 
 pub fn held_at(helds: &[u16; SERIES], p: usize, r: usize) -> u32 {
-    if 8 <= p {
-        return 0;
-    }
-    if ROUNDS <= r {
-        return 0;
-    }
-    wide(helds[p * ROUNDS + r])
+    u32::from(known(helds, p, r).unwrap_or(0))
 }
 
 pub fn place_at(places: &[i64; ROUNDS], r: usize) -> i64 {
-    if ROUNDS <= r {
-        return -1;
-    }
-    places[r]
-}
-
-fn fitting(n: u32) -> u16 {
-    if n < 65536 {
-        return n as u16;
-    }
-    65535
+    places.get(r).copied().unwrap_or(-1)
 }
 
 // ---- A cutback
@@ -71,14 +53,7 @@ fn is_cut_on(first: &[u8; STATE], second: &[u8; STATE], p: usize) -> bool
 }
 
 pub fn is_cut(first: &[u8; STATE], second: &[u8; STATE]) -> bool {
-    let mut p: usize = 0;
-    while p < 8 {
-        if is_cut_on(first, second, p) {
-            return true;
-        }
-        p += 1;
-    }
-    false
+    (0..8).any(|p| is_cut_on(first, second, p))
 }
 
 // ---- What a line did, told from the states before and after it
@@ -88,10 +63,8 @@ pub fn note_prices(s: &[u8; STATE], r: usize, prices: &mut [u32; SERIES]) {
     if ROUNDS <= r {
         return;
     }
-    let mut p: usize = 0;
-    while p < 8 {
+    for p in 0..8 {
         prices[p * ROUNDS + r] = book::price(s, p).amount();
-        p += 1;
     }
 }
 
@@ -99,18 +72,15 @@ fn note_held(s: &[u8; STATE], r: usize, helds: &mut [u16; SERIES]) {
     if ROUNDS <= r {
         return;
     }
-    let mut p: usize = 0;
-    while p < 8 {
-        helds[p * ROUNDS + r] = fitting(story::held_of(s, p));
-        p += 1;
+    for p in 0..8 {
+        helds[p * ROUNDS + r] = u16::try_from(story::held_of(s, p)).unwrap_or(u16::MAX);
     }
 }
 
 fn note_place(place: i64, r: usize, places: &mut [i64; ROUNDS]) {
-    if ROUNDS <= r {
-        return;
+    if r < ROUNDS {
+        places[r] = place;
     }
-    places[r] = place;
 }
 
 // An undone return of a later round is none.

@@ -5,24 +5,14 @@ use std::rt::Files;
 use store::Filled;
 use text::{ANSWER, put, put_named};
 
-fn take_first(room: &[u8], n: usize, names: &mut [u8; NAMES], out: &mut [u8; ANSWER]) {
-    if n <= room.len() {
-        names::take_file(&room[0..n], 32, 8, names, out);
-    }
-}
-
-// The first n bytes that were read.
-fn take_part(room: &[u8; ANSWER], n: usize, names: &mut [u8; NAMES], out: &mut [u8; ANSWER]) {
-    take_first(room, n, names, out);
-}
-
 // The names beside a box; where there is no such file nobody has one.
 pub fn read_names(rt: &impl Files, path: &[u8], names: &mut [u8; NAMES]) {
     let mut room = io::large_buffer();
     let mut told = io::large_buffer();
-    match store::load_names(rt, path, &mut room) {
-        Filled::Bytes(n) => take_part(&room, n, names, &mut told),
-        Filled::Failed(_) => {}
+    if let Filled::Bytes(n) = store::load_names(rt, path, &mut room) {
+        if let Some(bytes) = room.get(..n) {
+            names::take_file(bytes, 32, 8, names, &mut told);
+        }
     }
 }
 
@@ -33,10 +23,8 @@ fn put_title(out: &mut [u8; ANSWER], at: usize, names: &[u8; NAMES], whose: Whos
         return at;
     }
     let mut to = put(out, at, b" ");
-    let mut i: usize = 0;
-    while i < n {
+    for i in 0..n {
         to = escape(out, to, names::byte_of(names, whose, i));
-        i += 1;
     }
     to
 }

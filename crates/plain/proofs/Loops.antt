@@ -68,12 +68,11 @@ module _ {m n : ℕ} {order : List ℕ} {p : ℕ} {whole : Kept} {ps : List Plac
       };
     }
 
-    pub many_again : r ≡ true → 0 < left → (c : ℕ) → c ≡ count + 1 → Many m n order p whole ps' held' turns' ranks' c (left - 1)
-    many_again z l c ec =
+    pub many_again : r ≡ true → (c : ℕ) → c ≡ count + 1 → (k : ℕ) → suc k ≡ left → Many m n order p whole ps' held' turns' ranks' c k
+    many_again z c ec k one =
         let d = t.going.draw in
         let f = one_fewer m n (drawn order) ps p t.going.few d.few t.product t.going.working.book.room.long d.range
         (sym K.can ∙ z) in
-        let one : suc (left - 1) ≡ left = omega arith in
         record {
           product = t.product;
           going = record {
@@ -84,7 +83,7 @@ module _ {m n : ℕ} {order : List ℕ} {p : ℕ} {whole : Kept} {ps : List Plac
           };
           same =
               rw (places_by z, ec)
-              (sym (many_step m n (drawn order) p (left - 1) (kept ps count) (sym K.can ∙ z))
+              (sym (many_step m n (drawn order) p k (kept ps count) (sym K.can ∙ z))
               ∙ ap (λ k. keep_many m n (drawn order) k (kept ps count) p) one ∙ t.same);
         }
 
@@ -147,11 +146,9 @@ module _ (m n : ℕ) (targets ticks draw order : List ℕ) where
   rest_idle zero s x l e z = absurd (let z : ⊥ = omega arith in z)
   rest_idle (suc f) s x l e z = rw (sym e, eq-eqb x.count s.count z) refl
 
-  rest_step : (f : ℕ) (s x : Kept) → 0 < f → x ≡ once s → (x.count ≡ s.count → ⊥) → rest f s ≡ rest (f - 1) x
+  rest_step : (f : ℕ) (s x : Kept) → x ≡ once s → (x.count ≡ s.count → ⊥) → rest (suc f) s ≡ rest f x
   unfolding passes
-  rest_step zero s x l e d = absurd (let z : ⊥ = omega arith in z)
-  rest_step (suc f) s x l e d =
-      let z : f ≡ suc f - 1 = omega arith in rw (sym e, ne_eqb x.count s.count d) (ap (λ f. rest f x) z)
+  rest_step f s x e d = rw (sym e, ne_eqb x.count s.count d) refl
 
 -- what is left to do gives the whole
 pub record Turn (m n : ℕ) (targets ticks draw order : List ℕ) (whole : Kept) (ps : List Place) (held turns ranks : List ℕ) (count fuel : ℕ) : Type 0 where
@@ -163,14 +160,16 @@ module _ {m n : ℕ} {targets ticks draw order : List ℕ} {whole : Kept} {ps : 
   pub turn_ends : fuel ≤ 0 → kept ps count ≡ whole
   turn_ends l = sym (rest_out m n targets ticks draw order fuel (kept ps count) l) ∙ t.same
 
-  module _ (l : 0 < fuel) {ps' : List Place} {held' turns' ranks' : List ℕ} {all : ℕ}
+  module _ {ps' : List Place} {held' turns' ranks' : List ℕ} {all : ℕ}
       (G : Gone m n draw (once m n targets ticks draw order (kept ps count)) ps' held' turns' ranks' all) where
-    pub turn_idle : all ≡ count → kept ps' count ≡ whole
-    turn_idle z =
+    pub turn_idle : 0 < fuel → all ≡ count → kept ps' count ≡ whole
+    turn_idle l z =
         ap (kept ps') (sym z) ∙ sym (rest_idle m n targets ticks draw order fuel (kept ps count) (kept ps' all) l G.same z) ∙ t.same
 
-    pub turn_again : (all ≡ count → ⊥) → Turn m n targets ticks draw order whole ps' held' turns' ranks' all (fuel - 1)
-    turn_again d = record {
+    pub turn_again : (all ≡ count → ⊥) → (k : ℕ) → suc k ≡ fuel → Turn m n targets ticks draw order whole ps' held' turns' ranks' all k
+    turn_again d k one = record {
       going = G.going;
-      same = sym (rest_step m n targets ticks draw order fuel (kept ps count) (kept ps' all) l G.same d) ∙ t.same;
+      same =
+          sym (rest_step m n targets ticks draw order k (kept ps count) (kept ps' all) G.same d)
+          ∙ ap (λ f. rest m n targets ticks draw order f (kept ps count)) one ∙ t.same;
     }

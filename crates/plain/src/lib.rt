@@ -45,13 +45,11 @@ fn keep_many(
     ensures { Gone products bidders draw.now (keep_many products bidders (drawn draw.now) many (kept (places_in ps.old) count) p) (places_in ps.new) held.new turns.new ranks.new result }
 {
     let mut all = count;
-    let mut left = many;
-    while 0 < left {
+    for _ in 0..many {
         if !keep::keep_next(ps, held, turns, ranks, draw, p, products, bidders) {
             return all;
         }
         all += 1;
-        left -= 1;
     }
     all
 }
@@ -74,14 +72,12 @@ fn pass(
     ensures { Gone products bidders draw.now (visits products bidders (target_on targets.now) (is_one ticks.now) (drawn draw.now) (drawn order.now) (kept (places_in ps.old) count) products) (places_in ps.new) held.new turns.new ranks.new result }
 {
     let mut all = count;
-    let mut i: usize = 0;
-    while i < products {
+    for i in 0..products {
         let p = table::bidder_at(order, i, products);
         let many = lacking(held[p], targets[p], ticks[p]);
         all = keep_many(
             ps, held, turns, ranks, draw, p, products, bidders, many, all,
         );
-        i += 1;
     }
     all
 }
@@ -104,8 +100,8 @@ pub fn keep_plain(
     let mut ranks = [0u32; 256];
     keep::number_all(ps, &mut turns, &mut ranks);
     let mut count: u32 = 0;
-    let mut fuel = keep::sum_all(ps, &mut held, bidders);
-    while 0 < fuel {
+    let most = keep::sum_all(ps, &mut held, bidders);
+    for _ in 0..most {
         let all = pass(
             ps, &mut held, &mut turns, &mut ranks, targets, ticks, draw, order, products, bidders,
             count,
@@ -114,7 +110,6 @@ pub fn keep_plain(
             return count;
         }
         count = all;
-        fuel -= 1;
     }
     count
 }

@@ -1,16 +1,15 @@
 -- What step 5 goes by, of what is held of each product and of the products' targets and prices. Assumes nothing.
-use Rattle.std.specs.Prelude.{◌≡◌, Bool, true, ◌&&◌, cond, List, ℕ, ◌≤◌, ◌<◌, eqb, ℤ, get_or}
+use Rattle.std.specs.Prelude.{◌≡◌, Bool, true, ◌&&◌, cond, List, ℕ, ◌≤◌, ◌<◌, eqb, ℤ, get_or, is_some}
 use Rattle.rules.specs.declared.Price.{Price}
-use Rattle.rules.specs.declared.Override.{Override}
 use Rattle.rules.specs.declared.GoingPrice.{GoingPrice}
 use Rattle.rules.specs.declared.Decrements.{Decrements}
 use Rattle.rules.specs.declared.Auction.{Auction}
-use Rattle.rules.specs.Count.{sum_up_to, first_up_to, is_at}
+use Rattle.rules.specs.Count.{sum_up_to, first_up_to}
 use Rattle.rules.specs.Units.{amount_of}
 use Rattle.rules.specs.Settings.{setup, target_of}
 use Rattle.rules.specs.Held.{standing, above, above_zero, held}
 use Rattle.rules.specs.Bid.{one_if, price_at, before_at}
-use Rattle.rules.specs.Price.{Worked, next_price, next_before}
+use Rattle.rules.specs.Price.{Override, Worked, next_price, next_before}
 use Rattle.rules.specs.Round.{override_for}
 use Rattle.storing.specs.Written.{amount_at}
 use Rattle.prices.specs.declared.Next.{Next}
@@ -54,7 +53,7 @@ module _ (d : Decrements) (holds : List ℕ) (l : Lanes) where
 -- all products of a book with these settings and this round
 pub record Foresees (a : Auction) (holds : List ℕ) (l : Lanes) (r : Outlook) : Type 0 where
   pub over : r.over ≡ sum_up_to (λ p. above_zero (standing_on a.decrements holds l p)) a.terms.products
-  pub stops : r.stops ≡ cond (is_at (first_up_to (at_one a.decrements holds l) a.terms.products)) true (eqb a.round 4095)
+  pub stops : r.stops ≡ cond (is_some (first_up_to (at_one a.decrements holds l) a.terms.products)) true (eqb a.round 4095)
   pub price : (p : ℕ) → p < 8 → amount_at r.price p ≡ price_on a.decrements holds l p
   pub before : (p : ℕ) → p < 8 → amount_at r.before p ≡ before_on a.decrements holds l p
   pub mark : (p : ℕ) → p < 8 → get_or r.mark p 0 ≡ mark_on a.decrements holds l p

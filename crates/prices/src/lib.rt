@@ -8,11 +8,18 @@ ghost use Rattle.rules.specs.Layout.{loaded};
 ghost use Rattle.book.specs.Lent.{Lent};
 ghost use Rattle.prices.specs.Outlook.{NextOf, WorkedOut, Foresees};
 
-use rules::{BasisPoints, Chosen, GoingPrice, Override, Price, Quote};
+use rules::{BasisPoints, GoingPrice, Price, Quote};
+use std::array;
 
 // "Next price of a product above target", by the manager's decrement where one is given; "Other prices stay." The standing above zero,
 // or 0, is handed in.
-fn next_price(s: &[u8], given: Override, over: u32, target: u16, going: Price) -> GoingPrice
+fn next_price(
+    s: &[u8],
+    given: Option<BasisPoints>,
+    over: u32,
+    target: u16,
+    going: Price,
+) -> GoingPrice
     requires { Lent s.now }
     ensures { (held : ℕ) → over ≡ above_zero (standing held target) → NextOf (loaded s.now).decrements given held target going result }
 {
@@ -30,17 +37,15 @@ fn next_price(s: &[u8], given: Override, over: u32, target: u16, going: Price) -
     // "its decrement is that of the last row not above it"
     let n = book::rows(s);
     let mut decrement = BasisPoints(0);
-    let mut i: usize = 0;
-    while i < n {
+    for i in 0..n {
         let row = book::row(s, i);
         if row.percent as u64 <= percent {
             decrement = row.decrement;
         }
-        i += 1;
     }
     GoingPrice {
-        price: going.fall(given.or(decrement)),
-        overridden: given.is_given(),
+        price: going.fall(given.unwrap_or(decrement)),
+        overridden: given.is_some(),
     }
 }
 
@@ -52,7 +57,14 @@ pub struct Next {
     pub before: Price,
 }
 
-fn work_out(s: &[u8], given: Override, held: u32, target: u16, going: Price, last: Price) -> Next
+fn work_out(
+    s: &[u8],
+    given: Option<BasisPoints>,
+    held: u32,
+    target: u16,
+    going: Price,
+    last: Price,
+) -> Next
     requires { Lent s.now × (held ≤ 20000000) }
     ensures { WorkedOut (loaded s.now).decrements given held target going last result }
 {
@@ -78,7 +90,7 @@ pub struct Lanes {
     pub target: [u16; 8],
     pub price: [Quote; 8],
     pub before: [Quote; 8],
-    pub overrides: [Chosen; 8],
+    pub overrides: [Option<BasisPoints>; 8],
 }
 
 // The standings above zero, summed; whether the auction stops; and the prices and marks if it goes on.
@@ -97,43 +109,33 @@ pub fn foresee(s: &[u8], held: &[u32; 8], l: Lanes) -> Outlook
     ensures { Foresees (loaded s.now) held.now l result }
 {
     let products = book::products(s);
-    let none = Quote {
-        price: Price::of(0, 0),
-    };
-    let mut price = [none; 8];
-    let mut before = [none; 8];
-    let mut mark = [0u8; 8];
+    let next: [Next; 8] = array::from_fn(|p| {
+        work_out(
+            s,
+            l.overrides[p],
+            held[p],
+            l.target[p],
+            l.price[p].price,
+            l.before[p].price,
+        )
+    });
     let mut over: u64 = 0;
-    let mut bottom = false;
-    let mut p: usize = 0;
-    while p < 8 {
-        let x = l.price[p];
-        let y = l.before[p];
-        let z = l.overrides[p];
-        let going = x.price;
-        let last = y.price;
-        let given = z.decrement;
-        let next = work_out(s, given, held[p], l.target[p], going, last);
-        let worked = next.going;
-        let falls = worked.price;
-        let from = next.before;
-        price[p] = Quote { price: falls };
-        before[p] = Quote { price: from };
-        mark[p] = worked.overridden as u8;
-        if p < products {
-            over += next.over as u64;
-            // "a product above target is at price 1"
-            bottom = bottom | ((next.over > 0) & (going.amount() == 1));
-        }
-        p += 1;
+    for p in 0..products {
+        over += next[p].over as u64;
     }
+    // "a product above target is at price 1"
+    let bottom = (0..products).any(|p| (next[p].over > 0) & (l.price[p].price.amount() == 1));
     // "or this was round 4,095"
     let stops = bottom | (book::round(s) == 4095);
     Outlook {
         over,
         stops,
-        price,
-        before,
-        mark,
+        price: array::from_fn(|p| Quote {
+            price: next[p].going.price,
+        }),
+        before: array::from_fn(|p| Quote {
+            price: next[p].before,
+        }),
+        mark: array::from_fn(|p| next[p].going.overridden as u8),
     }
 }

@@ -8,7 +8,7 @@ use native.Mathlib.Omega.{arith}
 use borrow.Author.Tests.{eqb-true, eq-eqb}
 use lib.ListN.{length, get_or}
 use lib.Dec.{eqb}
-use Rattle.rules.specs.declared.Chosen.{Chosen}
+use Rattle.rules.specs.Price.{Override}
 use Rattle.rules.specs.declared.Settings.{Settings}
 use Rattle.rules.specs.declared.Terms.{Terms}
 use Rattle.rules.specs.declared.Auction.{Auction}
@@ -103,7 +103,7 @@ module _ (s : List ℕ) (S : StandsIn s) (c : Closed s) where
 -- ---- where bids are not open, no call changes the state
 
 module _ (s : List ℕ) (S : StandsIn s) (o : is_open (loaded s) ≡ false) where
-  ended_calculate : (draw : List ℕ) (os : List Chosen) → (calculate_call s draw os).bytes ≡ s
+  ended_calculate : (draw : List ℕ) (os : List Override) → (calculate_call s draw os).bytes ≡ s
   ended_calculate draw os = calculate_refused s draw os (λ n. clash (calculate_accepts s S draw os n).0 o)
 
   ended_after : (c : Call) → after s c ≡ s
@@ -129,7 +129,7 @@ module _ (s : List ℕ) (S : StandsIn s) (o : is_open (loaded s) ≡ false) wher
 -- from a to z, which is closed, by the rounds rs: one, and no bidder holds less than it bid in it
 record ClosingRound (a z : Auction) (rs : List Round) : Type 0 where
   pub draw : List ℕ
-  pub overrides : List Chosen
+  pub overrides : List Override
   pub accepted : rs ≡ record { auction = a; draw = draw; overrides = overrides } ∷ []
   pub asked : (b : ℕ) → b < a.terms.bidders
       → sum_up_to (λ p. bid_in (bid_on a b p)) a.terms.products ≤ sum_up_to (λ p. held_in (record_of z b p)) a.terms.products

@@ -4,7 +4,8 @@ use mathlib.Core.List.{List, [], ◌∷◌, map}
 use Prim.Native.Nat.{ℕ, zero, suc, ◌<◌}
 use native.Mathlib.Omega.{arith}
 use lib.ListN.{get_or, replicate}
-use Rattle.rules.specs.declared.Answer.TheVariants.{Done, Refused}
+use Rattle.rules.specs.declared.Refusal.TheVariants.{NoBidder}
+use Rattle.std.specs.Prelude.{Ok, Err}
 use Rattle.rules.specs.Count.{all_up_to, from}
 use Rattle.rules.specs.Bits.{Bytes, field_at, bit_at}
 use Rattle.rules.specs.Lots.{in_order, exits_fit}
@@ -50,12 +51,12 @@ box_bytes : Bytes open_box
 unfolding setting_s
 box_bytes = rw (open_bytes new_box setting_s new_opens refl refl) (stored_bytes (opened (setup_of setting_s)))
 
-answered : map (λ c. (file_call open_box c).answer) entered ≡ Done ∷ Refused 6 ∷ Done ∷ Done ∷ Done ∷ []
+answered : map (λ c. (file_call open_box c).answer) entered ≡ Ok tt ∷ Err NoBidder ∷ Ok tt ∷ Ok tt ∷ Ok tt ∷ []
 unfolding entered file_call
 answered = rw (numbers.0, numbers.1, numbers.2, numbers.3)
 
 -- each is answered as by itself; of all of them bidder 0's later card and bidder 1's are what is left
-pub entered_worked : (answers_to open_box entered ≡ Done ∷ Refused 6 ∷ Done ∷ Done ∷ Done ∷ []) × (last_valid open_box entered ≡ card_again ∷ card_of1 ∷ [])
+pub entered_worked : (answers_to open_box entered ≡ Ok tt ∷ Err NoBidder ∷ Ok tt ∷ Ok tt ∷ Ok tt ∷ []) × (last_valid open_box entered ≡ card_again ∷ card_of1 ∷ [])
 unfolding entered
 entered_worked = (
   answers_same open_box box_bytes entered ∙ answered,

@@ -12,7 +12,7 @@ use native.Mathlib.Omega.{arith}
 use native.Mathlib.Decide.{ℕ_discrete}
 use borrow.Author.Tests.{eqb-true, eqb-false, eq-eqb}
 use lib.Dec.{eqb}
-use Rattle.rules.specs.declared.Chosen.{Chosen}
+use Rattle.rules.specs.Price.{Override}
 use Rattle.rules.specs.Answers.{answer_from}
 use Rattle.rules.specs.Bits.{Bytes}
 use Rattle.rules.specs.Card.{read_card}
@@ -288,6 +288,6 @@ same_last s B cs ds p =
     last_counts s B cs ∙ any_order s B (last_valid s cs) (last_valid s ds) p (last_apart s cs) ∙ sym (last_counts s B ds)
 
 -- and entry order cannot change a round: any calculation after them gives the same answer and leaves the same state
-pub same_round : (s : List ℕ) → Bytes s → (cs ds : List (List ℕ)) → Perm (last_valid s cs) (last_valid s ds) → (draw : List ℕ) (os : List Chosen)
+pub same_round : (s : List ℕ) → Bytes s → (cs ds : List (List ℕ)) → Perm (last_valid s cs) (last_valid s ds) → (draw : List ℕ) (os : List Override)
     → calculate_call (run s (filings cs)) draw os ≡ calculate_call (run s (filings ds)) draw os
 same_round s B cs ds p draw os = ap (λ t. calculate_call t draw os) (same_last s B cs ds p)

@@ -8,7 +8,7 @@ use native.Mathlib.Omega.{arith}
 use borrow.Author.Tests.{ltb-true, ltb-false}
 use lib.ListN.{length}
 use lib.Dec.{ltb}
-use Rattle.rules.specs.declared.Chosen.{Chosen}
+use Rattle.rules.specs.Price.{Override}
 use Rattle.rules.specs.declared.Settings.{Settings}
 use Rattle.rules.specs.declared.Auction.{Auction}
 use Rattle.rules.specs.Settings.{setup, terms_of, setup_of, target_of, start_of}
@@ -30,7 +30,7 @@ use Rattle.promises.proofs.Steps.{Step, same, card, round, cut, step, some_none,
 
 -- ---- one calculation
 
-module _ (s : List ℕ) (S : StandsIn s) (draw : List ℕ) (os : List Chosen) (n : calculate_number s draw os ≡ 0) (p : ℕ) (h : p < (loaded s).terms.products) where
+module _ (s : List ℕ) (S : StandsIn s) (draw : List ℕ) (os : List Override) (n : calculate_number s draw os ≡ 0) (p : ℕ) (h : p < (loaded s).terms.products) where
   priced : PriceAfter (loaded s) (loaded (calculate_call s draw os).bytes) p
   priced =
       let o = calculate_accepts s S draw os n in

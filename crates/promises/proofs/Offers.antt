@@ -6,11 +6,11 @@ use Prim.Native.Nat.{ℕ, zero, suc, ◌+◌, ◌*◌, ◌%◌, ◌≤◌, ◌<�
 use native.Mathlib.Omega.{arith}
 use borrow.Author.Tests.{eqb-true, ltb-true, ltb-false}
 use lib.Dec.{eqb, ltb}
+use Rattle.rules.specs.Price.{Override}
 use Rattle.rules.specs.declared.Lot.{Lot}
 use Rattle.rules.specs.declared.Tranches.{Tranches}
 use Rattle.rules.specs.declared.Place.{Place}
 use Rattle.rules.specs.declared.Auction.{Auction}
-use Rattle.rules.specs.declared.Chosen.{Chosen}
 use Rattle.rules.specs.Answers.{closed}
 use Rattle.rules.specs.Settings.{setup, target_of}
 use Rattle.rules.specs.Lots.{count_of, lot_at, total, Within, AllWithin}
@@ -50,7 +50,7 @@ pub record Backed (o : OnOffer) (a : Auction) (b p : ℕ) : Type 0 where
 
 -- ---- one round
 
-module _ (a : Auction) (draw : List ℕ) (os : List Chosen) (S : Stands a) (L : Long a) (op : is_open a ≡ true)
+module _ (a : Auction) (draw : List ℕ) (os : List Override) (S : Stands a) (L : Long a) (op : is_open a ≡ true)
     (D : draw_fits a.terms.bidders draw ≡ true) (O : overrides_fit os ≡ true) (A : AllAccepted a)
     (b p : ℕ) (hb : b < a.terms.bidders) (hp : p < a.terms.products) where
   abbrev r : Round

@@ -8,25 +8,20 @@ use native.Mathlib.Omega.{arith}
 use borrow.Author.Tests.{eqb-true, eqb-false, ltb-true, ltb-false}
 use lib.ListN.{length, get_or}
 use lib.Dec.{eqb, ltb}
+use Rattle.std.specs.Prelude.{Option, None, Some, is_some, Err}
 use Rattle.rules.specs.declared.Tranches.{Tranches}
 use Rattle.rules.specs.declared.BasisPoints.{BasisPoints}
-use Rattle.rules.specs.declared.Override.{Override}
-use Rattle.rules.specs.declared.Override.TheVariants as override
-use Rattle.rules.specs.declared.Chosen.{Chosen}
 use Rattle.rules.specs.declared.Settings.{Settings}
-use Rattle.rules.specs.declared.Pick.{Pick}
-use Rattle.rules.specs.declared.Pick.TheVariants.{At, Nobody}
 use Rattle.rules.specs.declared.Outbid.{Outbid}
 use Rattle.rules.specs.declared.Auction.{Auction}
-use Rattle.rules.specs.declared.Calculation.TheVariants as calculation
-use Rattle.rules.specs.Count.{never, first_up_to, better, is_at}
+use Rattle.rules.specs.Count.{never, first_up_to, better}
 use Rattle.rules.specs.Units.{going_price}
-use Rattle.rules.specs.Answers.{outcome, bids_open, closed, stopped}
+use Rattle.rules.specs.Answers.{outcome, bids_open, closed, stopped, refusal_of}
 use Rattle.rules.specs.Parts.{no_lane, lane_at, priced, marked, auction, with_prices, unmarked}
 use Rattle.rules.specs.Settings.{setup, terms_of, setup_of, target_of}
 use Rattle.rules.specs.Held.{held, standing, standing_of, above, ticked, excess}
 use Rattle.rules.specs.Bid.{one_if, price_at, mark_at}
-use Rattle.rules.specs.Price.{decrement_for, fallen, is_given, override_fits, decrement_by}
+use Rattle.rules.specs.Price.{Override, decrement_for, fallen, is_given, override_fits, decrement_by}
 use Rattle.rules.specs.Round.{override_for, overrides_fit, after_step2, after_step4, at_rest, price_next, mark_next, before_next, onward, stops, settled, calculated}
 use Rattle.rules.specs.Report.{going_on, report_on}
 use Rattle.rules.specs.Layout.{state_length, loaded, all_zero}
@@ -52,7 +47,7 @@ use Rattle.promises.proofs.Falling.{price_falls}
 
 -- ---- one calculation
 
-module _ (s : List ℕ) (S : StandsIn s) (draw : List ℕ) (os : List Chosen) (n : calculate_number s draw os ≡ 0)
+module _ (s : List ℕ) (S : StandsIn s) (draw : List ℕ) (os : List Override) (n : calculate_number s draw os ≡ 0)
     (p : ℕ) (h : p < (loaded s).terms.products) where
   abbrev a : Auction
   a = loaded s
@@ -88,7 +83,7 @@ module _ (s : List ℕ) (S : StandsIn s) (draw : List ℕ) (os : List Chosen) (n
 
   -- and there the price is that of the decrement given, below the price before
   pub managers_price : uses_managers (loaded (calculate_call s draw os).bytes) (override_for os p) p ≡ true
-      → (x : BasisPoints) × (override_for os p ≡ override.Points x)
+      → (x : BasisPoints) × (override_for os p ≡ Some x)
       × (price_at (loaded (calculate_call s draw os).bytes) p ≡ fallen (price_at (loaded s) p) x.0)
       × (price_at (loaded (calculate_call s draw os).bytes) p < price_at (loaded s) p)
   managers_price u =
@@ -100,9 +95,9 @@ module _ (s : List ℕ) (S : StandsIn s) (draw : List ℕ) (os : List Chosen) (n
       of : (o : Override) → override_for os p ≡ o → is_given o ≡ true
           → price_at z p ≡ fallen (price_at a p) (decrement_by o (decrement_for a.decrements (held z.records a.terms.bidders p - target_of (setup a) p) (target_of (setup a) p)))
           → price_at z p < price_at a p
-          → (x : BasisPoints) × (override_for os p ≡ override.Points x) × (price_at z p ≡ fallen (price_at a p) x.0) × (price_at z p < price_at a p)
-      of override.None e g f d = clash g refl
-      of (override.Points x) e g f d = (x, e, f, d)
+          → (x : BasisPoints) × (override_for os p ≡ Some x) × (price_at z p ≡ fallen (price_at a p) x.0) × (price_at z p < price_at a p)
+      of None e g f d = clash g refl
+      of (Some x) e g f d = (x, e, f, d)
 
 -- ---- one call
 
@@ -115,13 +110,13 @@ module _ (s : List ℕ) (S : StandsIn s) (p : ℕ) (h : p < (loaded s).terms.pro
   file_marked c true e = ap (λ a. ltb 0 (mark_at a p)) (file_loaded s S c (eqb-true (file_number s c) 0 e))
   file_marked c false e = ap is_marked (file_refused s c (eqb-false (file_number s c) 0 e))
 
-  calculate_marked : (draw : List ℕ) (os : List Chosen) (t : Bool) → eqb (calculate_number s draw os) 0 ≡ t
+  calculate_marked : (draw : List ℕ) (os : List Override) (t : Bool) → eqb (calculate_number s draw os) 0 ≡ t
       → is_marked (calculate_call s draw os).bytes
       ≡ cond t (uses_managers (loaded (calculate_call s draw os).bytes) (override_for os p) p) (is_marked s)
   calculate_marked draw os true e = calculate_marks s S draw os (eqb-true (calculate_number s draw os) 0 e) p h
   calculate_marked draw os false e = ap is_marked (calculate_refused s draw os (eqb-false (calculate_number s draw os) 0 e))
 
-  plain_marked : (draw : List ℕ) (os : List Chosen) (order : List ℕ) (t : Bool) → eqb (plain_number s draw os order) 0 ≡ t
+  plain_marked : (draw : List ℕ) (os : List Override) (order : List ℕ) (t : Bool) → eqb (plain_number s draw os order) 0 ≡ t
       → is_marked (plain_call s draw os order).bytes
       ≡ cond t (uses_managers (loaded (plain_call s draw os order).bytes) (override_for os p) p) (is_marked s)
   plain_marked draw os order true e =
@@ -189,11 +184,11 @@ first_ext : (f g : ℕ → Bool) (n : ℕ) → ((i : ℕ) → i < n → f i ≡ 
 first_ext f g zero h = refl
 first_ext f g (suc n) h = by (first_up_to g n) (first_ext f g n (λ i l. h i (omega arith)))
   where
-    by : (q : Pick) → first_up_to f n ≡ q → better f never (first_up_to f n) n ≡ better g never q n
-    by Nobody e = rw (e, h n (omega arith)) refl
-    by (At i) e = rw (e, h n (omega arith)) refl
+    by : (q : Option ℕ) → first_up_to f n ≡ q → better f never (first_up_to f n) n ≡ better g never q n
+    by None e = rw (e, h n (omega arith)) refl
+    by (Some i) e = rw (e, h n (omega arith)) refl
 
-module _ (os : List Chosen) (none : (p : ℕ) → p < 8 → override_for os p ≡ override.None) where
+module _ (os : List Override) (none : (p : ℕ) → p < 8 → override_for os p ≡ None) where
   none_fit : overrides_fit os ≡ true
   none_fit = all_give (λ p. override_fits (override_for os p)) 8 (λ p h. ap override_fits (none p h))
 
@@ -216,7 +211,7 @@ module _ (os : List Chosen) (none : (p : ℕ) → p < 8 → override_for os p �
 
     stops_same : stops rest ≡ stops rested
     stops_same =
-        ap (λ q. cond (is_at q) true (eqb a.round 4095))
+        ap (λ q. cond (is_some q) true (eqb a.round 4095))
         (first_ext (λ p. above (standing_of rest p) && eqb (price_at rest p) 1) (λ p. above (standing_of rested p) && eqb (price_at rested p) 1)
         a.terms.products (λ p h. ap₂ (λ z x. above z && eqb x 1) (standing_same p) (price_same p (omega arith))))
 
@@ -272,13 +267,13 @@ few_products s draw e = by (all_zero s) _ (granted (eqb (length s) state_length)
     by false x f = (stands_take (loaded s) (granted (stands (loaded s)) x 2 (omega arith) f).0).limits.products
 
 -- with none given the call equals the earlier one, which leaves no mark: of any bytes
-pub none_given : (s draw : List ℕ) (os : List Chosen) → ((p : ℕ) → p < 8 → override_for os p ≡ override.None)
+pub none_given : (s draw : List ℕ) (os : List Override) → ((p : ℕ) → p < 8 → override_for os p ≡ None)
     → calculate_call s draw os ≡ call_earlier s draw
 unfolding calculate_call
 none_given s draw os none = rw (number_same os none s draw) (by (eqb (number_earlier s draw) 0) refl)
   where
     by : (t : Bool) → eqb (number_earlier s draw) 0 ≡ t
-        → cond t (calculation_done (calculated (loaded s) draw os)) (outcome (calculation.Refused (number_earlier s draw)) s)
-        ≡ cond t (calculation_done (calculated_earlier (loaded s) draw)) (outcome (calculation.Refused (number_earlier s draw)) s)
+        → cond t (calculation_done (calculated (loaded s) draw os)) (outcome (Err (refusal_of (number_earlier s draw))) s)
+        ≡ cond t (calculation_done (calculated_earlier (loaded s) draw)) (outcome (Err (refusal_of (number_earlier s draw))) s)
     by true e = ap calculation_done (round_same os none (loaded s) draw (few_products s draw (eqb-true (number_earlier s draw) 0 e)))
     by false e = refl

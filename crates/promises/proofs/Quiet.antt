@@ -8,8 +8,8 @@ use native.Mathlib.Omega.{arith}
 use borrow.Author.Tests.{ltb-true, ltb-false}
 use lib.ListN.{length, length-append}
 use lib.Dec.{eqb, ltb}
+use Rattle.rules.specs.Price.{Override}
 use Rattle.rules.specs.declared.Tranches.{Tranches}
-use Rattle.rules.specs.declared.Chosen.{Chosen}
 use Rattle.rules.specs.declared.Settings.{Settings}
 use Rattle.rules.specs.declared.Auction.{Auction}
 use Rattle.rules.specs.Count.{sum_up_to}
@@ -69,7 +69,7 @@ abbrev Onward : ℕ → Auction → Auction → ℕ → Type 0
 Onward k a z n = ((n ≡ 1) × Moves a z) ⊎ (Ready z × (denied_standing z + n ≤ k))
 
 module _ (a : Auction) (S : Stands a) (L : Long a) where
-  round_on : (draw : List ℕ) (os : List Chosen) (o : is_open a ≡ true) (D : draw_fits a.terms.bidders draw ≡ true) (O : overrides_fit os ≡ true) (k : ℕ)
+  round_on : (draw : List ℕ) (os : List Override) (o : is_open a ≡ true) (D : draw_fits a.terms.bidders draw ≡ true) (O : overrides_fit os ≡ true) (k : ℕ)
       → (Quiet (calculated a draw os).auction → denied_standing (calculated a draw os).auction + 1 ≤ k) → Onward k a (calculated a draw os).auction 1
   round_on draw os o D O k f = by (moves_or_quiet a draw os S L o D O (bids_accepted a S o))
     where

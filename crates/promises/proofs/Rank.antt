@@ -5,11 +5,11 @@ use mathlib.Core.Bool.{true, false}
 use mathlib.Core.List.{List, [], ◌∷◌, map}
 use Prim.Native.Nat.{ℕ, zero, suc, ◌+◌, ◌*◌}
 use borrow.Author.Tests.{ne_eqb}
+use Rattle.std.specs.Prelude.{Err}
+use Rattle.rules.specs.Price.{Override}
 use Rattle.rules.specs.declared.Place.{Place}
-use Rattle.rules.specs.declared.Chosen.{Chosen}
 use Rattle.rules.specs.declared.Auction.{Auction}
-use Rattle.rules.specs.declared.Calculation.TheVariants as calculation
-use Rattle.rules.specs.Answers.{outcome, first_number}
+use Rattle.rules.specs.Answers.{outcome, first_number, refusal_of}
 use Rattle.rules.specs.Settings.{setup, target_of}
 use Rattle.rules.specs.Held.{ticked}
 use Rattle.rules.specs.Accept.{place_at, accepted_all}
@@ -59,12 +59,12 @@ module _ (a : Auction) (S : Stands a) (o : is_open a ≡ true) (draw : List ℕ)
     equal_step = plain_step a S o draw D order O
 
     -- so the auction after the round is the same, whatever the overrides
-    pub equal_round : (os : List Chosen) → calculated_plain a draw os order ≡ calculated a draw os
+    pub equal_round : (os : List Override) → calculated_plain a draw os order ≡ calculated a draw os
     equal_round = plain_calculated a S o draw D order O
 
 -- ---- the call, on any bytes
 
-module _ (s draw : List ℕ) (os : List Chosen) where
+module _ (s draw : List ℕ) (os : List Override) where
   -- "the same in answer and every byte", for every order that fits
   pub equal_call : (order : List ℕ) → order_fits (loaded s).terms.products order ≡ true → plain_call s draw os order ≡ calculate_call s draw os
   equal_call order O = plain_call_lem s draw os order O
@@ -86,7 +86,7 @@ module _ (s draw : List ℕ) (os : List Chosen) where
 
   -- otherwise an order that does not fit is answered 23, and nothing is changed
   pub unfit_order : (order : List ℕ) → calculate_number s draw os ≡ 0 → order_fits (loaded s).terms.products order ≡ false
-      → plain_call s draw os order ≡ outcome (calculation.Refused 23) s
+      → plain_call s draw os order ≡ outcome (Err (refusal_of 23)) s
   unfolding plain_call
   unfit_order order e f = rw (e, f)
 

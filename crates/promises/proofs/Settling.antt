@@ -6,20 +6,18 @@ use Prim.Native.Nat.{ℕ}
 use native.Mathlib.Omega.{arith}
 use borrow.Author.Tests.{eqb-true}
 use lib.Dec.{eqb}
+use Rattle.rules.specs.declared.Refusal.{Refusal}
+use Rattle.std.specs.Prelude.{Err, Result}
+use Rattle.rules.specs.Price.{Override}
 use Rattle.rules.specs.declared.Tranches.{Tranches}
 use Rattle.rules.specs.declared.Line.{Line}
-use Rattle.rules.specs.declared.Chosen.{Chosen}
 use Rattle.rules.specs.declared.Settings.{Settings}
 use Rattle.rules.specs.declared.Auction.{Auction}
-use Rattle.rules.specs.declared.Answer.{Answer}
-use Rattle.rules.specs.declared.Count.{Count}
 use Rattle.rules.specs.declared.Calculation.{Calculation}
-use Rattle.rules.specs.declared.Calculation.TheVariants as calculation
 use Rattle.rules.specs.declared.Reported.{Reported}
 use Rattle.rules.specs.declared.Awarded.{Awarded}
 use Rattle.rules.specs.declared.CardRead.{CardRead}
-use Rattle.rules.specs.declared.Volume.{Volume}
-use Rattle.rules.specs.Answers.{Leaves, Gives, outcome, said, calculation_said}
+use Rattle.rules.specs.Answers.{Leaves, Gives, outcome, said, calculation_said, refusal_of, Answer}
 use Rattle.rules.specs.Round.{calculated}
 use Rattle.rules.specs.Layout.{loaded}
 use Rattle.rules.specs.Calls.{open_call, file_call, count_call, calculate_number, calculation_done, calculate_call, plain_call, cutback_call, report_call, result_call, return_call, read_call, write_call, suggested_call}
@@ -42,14 +40,14 @@ unique_open s x = leaves_one (open_call s x)
 pub unique_file : (s c : List ℕ) (o k : Answer) (t u : List ℕ) → Leaves (file_call s c) o t → Leaves (file_call s c) k u → (o ≡ k) × (t ≡ u)
 unique_file s c = leaves_one (file_call s c)
 
-pub unique_count : (s : List ℕ) (o k : Count) → Gives (count_call s) o → Gives (count_call s) k → o ≡ k
+pub unique_count : (s : List ℕ) (o k : Result ℕ Refusal) → Gives (count_call s) o → Gives (count_call s) k → o ≡ k
 unique_count s = gives_one (count_call s)
 
-pub unique_calculate : (s draw : List ℕ) (os : List Chosen) (o k : Calculation) (t u : List ℕ)
+pub unique_calculate : (s draw : List ℕ) (os : List Override) (o k : Result Calculation Refusal) (t u : List ℕ)
     → Leaves (calculate_call s draw os) o t → Leaves (calculate_call s draw os) k u → (o ≡ k) × (t ≡ u)
 unique_calculate s draw os = leaves_one (calculate_call s draw os)
 
-pub unique_plain : (s draw : List ℕ) (os : List Chosen) (order : List ℕ) (o k : Calculation) (t u : List ℕ)
+pub unique_plain : (s draw : List ℕ) (os : List Override) (order : List ℕ) (o k : Result Calculation Refusal) (t u : List ℕ)
     → Leaves (plain_call s draw os order) o t → Leaves (plain_call s draw os order) k u → (o ≡ k) × (t ≡ u)
 unique_plain s draw os order = leaves_one (plain_call s draw os order)
 
@@ -73,12 +71,12 @@ pub unique_write : (room : List ℕ) (n b r : ℕ) (ls : List Line) (o k : Answe
     → Leaves (write_call room n b r ls) o t → Leaves (write_call room n b r ls) k u → (o ≡ k) × (t ≡ u)
 unique_write room n b r ls = leaves_one (write_call room n b r ls)
 
-pub unique_suggested : (bid ratio : ℕ) (o k : Volume) → Gives (suggested_call bid ratio) o → Gives (suggested_call bid ratio) k → o ≡ k
+pub unique_suggested : (bid ratio : ℕ) (o k : Result ℕ Refusal) → Gives (suggested_call bid ratio) o → Gives (suggested_call bid ratio) k → o ≡ k
 unique_suggested bid ratio = gives_one (suggested_call bid ratio)
 
 -- ---- the two counts
 
-module _ (s : List ℕ) (S : StandsIn s) (draw : List ℕ) (os : List Chosen) (k o : ℕ)
+module _ (s : List ℕ) (S : StandsIn s) (draw : List ℕ) (os : List Override) (k o : ℕ)
     (d : calculation_said (calculate_call s draw os).answer ≡ said 0 (k ∷ o ∷ [])) where
   abbrev a : Auction
   a = loaded s
@@ -87,7 +85,7 @@ module _ (s : List ℕ) (S : StandsIn s) (draw : List ℕ) (os : List Chosen) (k
   z = loaded (calculate_call s draw os).bytes
 
   accepted_by : (t : Bool) → eqb (calculate_number s draw os) 0 ≡ t
-      → calculation_said (cond t (calculation_done (calculated a draw os)) (outcome (calculation.Refused (calculate_number s draw os)) s)).answer ≡ said 0 (k ∷ o ∷ [])
+      → calculation_said (cond t (calculation_done (calculated a draw os)) (outcome (Err (refusal_of (calculate_number s draw os))) s)).answer ≡ said 0 (k ∷ o ∷ [])
       → (calculate_number s draw os ≡ 0) × ((calculated a draw os).kept ≡ k) × ((calculated a draw os).outbid ≡ o)
   accepted_by true e f =
       let v : ◌≡◌ {A = List ℕ} ((calculated a draw os).kept ∷ (calculated a draw os).outbid ∷ []) (k ∷ o ∷ []) = ap (λ x. x.values) f in

@@ -7,9 +7,9 @@ use native.Mathlib.Omega.{arith}
 use borrow.Author.Tests.{eqb-true, eqb-false, eq-eqb}
 use lib.ListN.{length}
 use lib.Dec.{eqb}
+use Rattle.rules.specs.Price.{Override}
 use Rattle.rules.specs.declared.Tranches.{Tranches}
 use Rattle.rules.specs.declared.Line.{Line}
-use Rattle.rules.specs.declared.Chosen.{Chosen}
 use Rattle.rules.specs.declared.Settings.{Settings}
 use Rattle.rules.specs.declared.Setup.{Setup}
 use Rattle.rules.specs.declared.Auction.{Auction}
@@ -41,7 +41,7 @@ use Rattle.promises.specs.Demands.{KeptBut}
 pub data Step (a : Auction) : Auction → List Round → List Cutback → Type 0 where
   same : Step a a [] []
   card : (b : ℕ) (ls : List Line) → Step a (with_card a b ls) [] []
-  round : (draw : List ℕ) (os : List Chosen) → is_open a ≡ true → draw_fits a.terms.bidders draw ≡ true → overrides_fit os ≡ true
+  round : (draw : List ℕ) (os : List Override) → is_open a ≡ true → draw_fits a.terms.bidders draw ≡ true → overrides_fit os ≡ true
       → Step a (calculated a draw os).auction (record { auction = a; draw = draw; overrides = os } ∷ []) []
   cut : (targets caps : List Tranches) → is_open a ≡ true → may_cut a targets caps ≡ true
       → Step a (cut_back a targets caps) [] (record { targets = targets; caps = caps } ∷ [])
@@ -55,7 +55,7 @@ module _ (s : List ℕ) (S : StandsIn s) where
   file_step c true e = rw (file_loaded s S c (eqb-true (file_number s c) 0 e)) (card _ _)
   file_step c false e = stays _ (file_refused s c (eqb-false (file_number s c) 0 e))
 
-  calculate_step : (draw : List ℕ) (os : List Chosen) (t : Bool) → eqb (calculate_number s draw os) 0 ≡ t
+  calculate_step : (draw : List ℕ) (os : List Override) (t : Bool) → eqb (calculate_number s draw os) 0 ≡ t
       → Step (loaded s) (loaded (calculate_call s draw os).bytes) (cond t (record { auction = loaded s; draw = draw; overrides = os } ∷ []) []) []
   calculate_step draw os true e =
       let n = eqb-true (calculate_number s draw os) 0 e in
@@ -63,7 +63,7 @@ module _ (s : List ℕ) (S : StandsIn s) where
       rw (calculate_loaded s S draw os n) (round draw os o.0 o.1 o.2)
   calculate_step draw os false e = stays _ (calculate_refused s draw os (eqb-false (calculate_number s draw os) 0 e))
 
-  plain_step : (draw : List ℕ) (os : List Chosen) (order : List ℕ) (t : Bool) → eqb (plain_number s draw os order) 0 ≡ t
+  plain_step : (draw : List ℕ) (os : List Override) (order : List ℕ) (t : Bool) → eqb (plain_number s draw os order) 0 ≡ t
       → Step (loaded s) (loaded (plain_call s draw os order).bytes) (cond t (record { auction = loaded s; draw = draw; overrides = os } ∷ []) []) []
   plain_step draw os order true e =
       let p = plain_accepts s draw os order (eqb-true (plain_number s draw os order) 0 e) in

@@ -9,9 +9,10 @@ use borrow.Author.Tests.{eqb-true, eq-eqb}
 use lib.ListN.{length, replicate, length-replicate}
 use lib.Count.{ones}
 use lib.Dec.{eqb}
+use Rattle.rules.specs.declared.Refusal.{Refusal}
+use Rattle.std.specs.Prelude.{Some, Result}
+use Rattle.rules.specs.Price.{Override}
 use Rattle.rules.specs.declared.Tranches.{Tranches}
-use Rattle.rules.specs.declared.Override.TheVariants as override
-use Rattle.rules.specs.declared.Chosen.{Chosen}
 use Rattle.rules.specs.declared.Settings.{Settings}
 use Rattle.rules.specs.declared.Product.{Product}
 use Rattle.rules.specs.declared.Unit.TheVariants as unit
@@ -56,30 +57,30 @@ open_writes s x new e r q =
     let z = (granted (all_zero s) _ 17 (omega arith) l.1).0 in
     clash z (ap all_zero (sym q) ∙ not_issued _ (open_stands_lem s x new e r))
 
-rest_other : (a : Auction) (os : List Chosen) (o : Outbid) (t u : Bool) → is_open a ≡ true
+rest_other : (a : Auction) (os : List Override) (o : Outbid) (t u : Bool) → is_open a ≡ true
     → cond t (at_rest closed a o) (cond u (at_rest stopped a o) (onward os (at_rest closed a o))) ≡ a → ⊥
 rest_other a os o true u h e = let x = eqb-true a.phase 1 h in let y = ap (λ z. z.phase) e in omega arith
 rest_other a os o false true h e = let x = eqb-true a.phase 1 h in let y = ap (λ z. z.phase) e in omega arith
 rest_other a os o false false h e = let y = ap (λ z. z.round) e in omega arith
 
-settled_other : (a : Auction) (os : List Chosen) (o : Outbid) → is_open a ≡ true → settled a os o ≡ a → ⊥
+settled_other : (a : Auction) (os : List Override) (o : Outbid) → is_open a ≡ true → settled a os o ≡ a → ⊥
 settled_other a os o = rest_other a os o (eqb (excess (at_rest closed a o)) 0) (stops (at_rest closed a o))
 
-round_other : (a : Auction) (draw : List ℕ) (os : List Chosen) → is_open a ≡ true → (calculated a draw os).auction ≡ a → ⊥
+round_other : (a : Auction) (draw : List ℕ) (os : List Override) → is_open a ≡ true → (calculated a draw os).auction ≡ a → ⊥
 unfolding calculated
 round_other a draw os = settled_other a os (after_step4 a draw (after_step2 a draw).places)
 
 -- a calculation accepted changes the state, in every round
-pub calculate_writes : (s : List ℕ) → StandsIn s → (draw : List ℕ) (os : List Chosen) → calculate_number s draw os ≡ 0 → (calculate_call s draw os).bytes ≡ s → ⊥
+pub calculate_writes : (s : List ℕ) → StandsIn s → (draw : List ℕ) (os : List Override) → calculate_number s draw os ≡ 0 → (calculate_call s draw os).bytes ≡ s → ⊥
 calculate_writes s S draw os n q =
     round_other (loaded s) draw os (calculate_accepts s S draw os n).0 (sym (calculate_loaded s S draw os n) ∙ ap loaded q)
 
 -- and so in any order of the products
-pub plain_writes : (s : List ℕ) → StandsIn s → (draw : List ℕ) (os : List Chosen) (order : List ℕ) → plain_number s draw os order ≡ 0
+pub plain_writes : (s : List ℕ) → StandsIn s → (draw : List ℕ) (os : List Override) (order : List ℕ) → plain_number s draw os order ≡ 0
     → (plain_call s draw os order).bytes ≡ s → ⊥
 plain_writes s S draw os order n q =
     let p = plain_accepts s draw os order n in
-    calculate_writes s S draw os p.0 (sym (ap (λ (o : Outcome Calculation). o.bytes) (plain_call_lem s draw os order p.1)) ∙ q)
+    calculate_writes s S draw os p.0 (sym (ap (λ (o : Outcome (Result Calculation Refusal)). o.bytes) (plain_call_lem s draw os order p.1)) ∙ q)
 
 -- a cutback accepted that revises a target or a cap changes the state
 pub cutback_writes : (s : List ℕ) → StandsIn s → (targets caps : List Tranches) → cutback_number s targets caps ≡ 0
@@ -171,8 +172,8 @@ calculate_answers =
     (rw (box_says 3 (round_number draw012 []), open_auction, none_kept.0, none_kept.1), rw (box_says 3 (round_number [] [])))
 
 -- an override of 0, the draw in order and not
-unfoldable pub by_zero : List Chosen
-by_zero = record { decrement = override.Points (points 0) } ∷ []
+unfoldable pub by_zero : List Override
+by_zero = Some (points 0) ∷ []
 
 pub override_answers : (calculation_said (calculate_call open_box draw012 by_zero).answer ≡ said 19 [])
     × (calculation_said (calculate_call open_box [] by_zero).answer ≡ said 14 [])
@@ -184,7 +185,7 @@ pub plain_answers : (calculation_said (plain_call open_box draw012 [] (1 ∷ 0 �
     × (calculation_said (plain_call open_box draw012 by_zero (1 ∷ 1 ∷ [])).answer ≡ said 19 [])
 unfolding plain_call setting_s draw012 by_zero opened setup_of all_up_to from
 plain_answers = (
-  ap (λ (o : Outcome Calculation). calculation_said o.answer) (plain_call_lem open_box draw012 [] (1 ∷ 0 ∷ []) (rw open_auction)) ∙ calculate_answers.0,
+  ap (λ (o : Outcome (Result Calculation Refusal)). calculation_said o.answer) (plain_call_lem open_box draw012 [] (1 ∷ 0 ∷ []) (rw open_auction)) ∙ calculate_answers.0,
   rw (box_says 3 (round_number draw012 []), open_auction),
   rw (box_says 3 (round_number draw012 by_zero)),
 )

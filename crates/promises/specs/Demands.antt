@@ -1,7 +1,7 @@
 -- What demands 1 and 3 say of settings, closing bids and awards. Assumes nothing.
 use Rattle.std.specs.Prelude.{◌≡◌, true, List, [], ◌∷◌, ◌++◌, ℕ, ◌+◌, ◌≤◌, ◌<◌}
+use Rattle.rules.specs.Price.{Override}
 use Rattle.rules.specs.declared.Lot.{Lot}
-use Rattle.rules.specs.declared.Chosen.{Chosen}
 use Rattle.rules.specs.declared.Terms.{Terms}
 use Rattle.rules.specs.declared.Setup.{Setup}
 use Rattle.rules.specs.Count.{sum_up_to}
@@ -35,7 +35,7 @@ pub record ClosingBid (s : List ℕ) (t : Terms) (cs : List Call) : Type 0 where
   pub bidding : is_open (loaded (run s before)) ≡ true
   -- it is a calculation, by either engine, and not refused
   pub draw : List ℕ
-  pub overrides : List Chosen
+  pub overrides : List Override
   pub accepted : round_of (run s before) call ≡ record { auction = loaded (run s before); draw = draw; overrides = overrides } ∷ []
   pub closing : Closed (after (run s before) call)
   pub asked : (b : ℕ) → b < t.bidders

@@ -1,13 +1,13 @@
 -- The calculation as it was before request 1 of document 02, which knew neither overrides nor marks: document 01's words alone. Assumes
 -- nothing.
-use Rattle.std.specs.Prelude.{cond, List, ℕ, ◌+◌, eqb}
+use Rattle.rules.specs.declared.Refusal.{Refusal}
+use Rattle.std.specs.Prelude.{cond, List, ℕ, ◌+◌, eqb, Result, Err}
 use Rattle.rules.specs.declared.Kept.{Kept}
 use Rattle.rules.specs.declared.Outbid.{Outbid}
 use Rattle.rules.specs.declared.Auction.{Auction}
 use Rattle.rules.specs.declared.Calculated.{Calculated}
 use Rattle.rules.specs.declared.Calculation.{Calculation}
-use Rattle.rules.specs.declared.Calculation.TheVariants as calculation
-use Rattle.rules.specs.Answers.{Outcome, outcome, bids_open, closed, stopped}
+use Rattle.rules.specs.Answers.{Outcome, outcome, bids_open, closed, stopped, refusal_of}
 use Rattle.rules.specs.Parts.{no_cards, with_phase, with_round, with_prices, unmarked, with_cards}
 use Rattle.rules.specs.Settings.{setup, target_of}
 use Rattle.rules.specs.Held.{standing_of, excess, above, above_zero}
@@ -51,8 +51,8 @@ calculated_earlier a draw = kept_earlier a draw (after_step2 a draw)
 abbrev pub number_earlier : List ℕ → List ℕ → ℕ
 number_earlier s draw = of_state s 3 (λ a. cond (is_open a) (cond (draw_fits a.terms.bidders draw) 0 14) 3)
 
-abbrev pub call_earlier : List ℕ → List ℕ → Outcome Calculation
+abbrev pub call_earlier : List ℕ → List ℕ → Outcome (Result Calculation Refusal)
 call_earlier s draw =
     cond (eqb (number_earlier s draw) 0)
     (calculation_done (calculated_earlier (loaded s) draw))
-    (outcome (calculation.Refused (number_earlier s draw)) s)
+    (outcome (Err (refusal_of (number_earlier s draw))) s)

@@ -1,7 +1,7 @@
 -- Document 02, request 6: "Who filed first doesn't matter." Cards filed one after the other, and in another order. Assumes nothing.
+use Rattle.rules.specs.Answers.{Answer}
 use Rattle.std.specs.Prelude.{◌≡◌, Bool, false, ◌&&◌, ◌||◌, not, cond, List, [], ◌∷◌, map, ℕ, eqb}
 use Rattle.rules.specs.declared.Line.{Line}
-use Rattle.rules.specs.declared.Answer.{Answer}
 use Rattle.rules.specs.Card.{read_card}
 use Rattle.rules.specs.Layout.{loaded}
 use Rattle.rules.specs.Calls.{bidder_on, file_number, file_call}

@@ -1,11 +1,10 @@
 -- Document 02, request 1: whose decrement a price was last worked out by, told from the calls and their inputs and from what is held, and
 -- from no mark. Assumes nothing.
 use Rattle.std.specs.Prelude.{Bool, false, ◌&&◌, cond, List, [], ◌∷◌, ℕ, get_or, eqb}
-use Rattle.rules.specs.declared.Override.{Override}
 use Rattle.rules.specs.declared.Auction.{Auction}
 use Rattle.rules.specs.Units.{going_price}
 use Rattle.rules.specs.Held.{ticked}
-use Rattle.rules.specs.Price.{is_given}
+use Rattle.rules.specs.Price.{Override, is_given}
 use Rattle.rules.specs.Round.{override_for}
 use Rattle.rules.specs.Layout.{loaded}
 use Rattle.rules.specs.Legal.{is_open}

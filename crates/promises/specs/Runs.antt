@@ -1,7 +1,7 @@
 -- A run of calls on one lent state. Assumes nothing.
 use Rattle.std.specs.Prelude.{cond, List, [], ◌∷◌, ◌++◌, ℕ, min, eqb}
+use Rattle.rules.specs.Price.{Override}
 use Rattle.rules.specs.declared.Tranches.{Tranches}
-use Rattle.rules.specs.declared.Chosen.{Chosen}
 use Rattle.rules.specs.declared.Settings.{Settings}
 use Rattle.rules.specs.declared.Setup.{Setup}
 use Rattle.rules.specs.declared.Auction.{Auction}
@@ -31,10 +31,10 @@ filled_part a p = min (held a.records a.terms.bidders p) (target_of (setup a) p)
 pub record Round : Type 0 where
   pub auction : Auction
   pub draw : List ℕ
-  pub overrides : List Chosen
+  pub overrides : List Override
 
 -- one where a calculation has no number
-abbrev pub round_unless : ℕ → List ℕ → List ℕ → List Chosen → List Round
+abbrev pub round_unless : ℕ → List ℕ → List ℕ → List Override → List Round
 round_unless n s draw os = cond (eqb n 0) (record { auction = loaded s; draw = draw; overrides = os } ∷ []) []
 
 -- by which engine does not matter

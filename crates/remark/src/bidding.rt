@@ -4,11 +4,11 @@ ghost use Rattle.book.specs.Lent.{Lent};
 
 use crate::cards::of_read;
 use crate::exits::put_exit;
+use crate::of_phase;
 use crate::phases::put_bidder;
-use crate::{of_phase, wide};
 use bids::{Kept, Sums, numbers_of, reduction, tally_of};
 use layout::STATE;
-use rules::{Card, Line, Record};
+use rules::{Bid, Line, Record};
 use text::ANSWER;
 use view::put_form;
 
@@ -139,21 +139,15 @@ fn put_products(
     b: usize,
     lines: [Line; 8],
     switched: bool,
-) -> usize
+) -> Option<usize>
     requires { b < 32 }
 {
-    let m = book::products(s);
-    let mut p: usize = 0;
-    while p < 8 {
-        if m <= p {
-            return at;
-        }
+    for p in 0..book::products(s).min(8) {
         if breaks(kept_on(s, ticks, b, lines, p), n, switched) {
-            return put_product(out, at, n, s, b, lines[p], p, switched);
+            return Some(put_product(out, at, n, s, b, lines[p], p, switched));
         }
-        p += 1;
     }
-    at
+    None
 }
 
 // ---- The sums
@@ -203,13 +197,9 @@ fn put_numbered(
 {
     let counts = numbers_of(s, b, lines);
     let k = rising as u64;
-    let mut i: usize = 1;
-    while i < 9 {
-        if k < i as u64 {
-            return at;
-        }
+    for i in 1..=rising.min(8) as usize {
         if counts[i] != 1 {
-            let numbers = [k, k, i as u64, wide(counts[i])];
+            let numbers = [k, k, i as u64, counts[i] as u64];
             return put_form(
                 out,
                 at,
@@ -217,7 +207,6 @@ fn put_numbered(
                 &numbers,
             );
         }
-        i += 1;
     }
     at
 }
@@ -238,8 +227,7 @@ fn put_rule(
     let f = book::free(s, b).0 as u32;
     let switches = x.switches(f);
     let switched = 0 < switches;
-    let to = put_products(out, at, n, s, &ticks, b, lines, switched);
-    if to != at {
+    if let Some(to) = put_products(out, at, n, s, &ticks, b, lines, switched) {
         return to;
     }
     match n {
@@ -262,16 +250,7 @@ fn put_judged(
     lines: [Line; 8],
 ) -> usize {
     let b = bidder as usize;
-    if 8 < book::products(s) {
-        return at;
-    }
-    if 32 < book::bidders(s) {
-        return at;
-    }
-    if 8 < book::rows(s) {
-        return at;
-    }
-    if 31 < b {
+    if 8 < book::products(s) || 32 < book::bidders(s) || 8 < book::rows(s) || 31 < b {
         return at;
     }
     put_rule(out, at, n, s, b, lines)
@@ -306,13 +285,13 @@ pub fn of_card(out: &mut [u8; ANSWER], at: usize, n: u8, s: &[u8; STATE], card: 
     let lines = got.lines;
     let answer = got.card;
     match answer {
-        Card::Refused(k) => {
-            if n == k {
+        Err(e) => {
+            if n == e.number() {
                 of_read(out, at, n, card, products)
             } else {
                 of_phase(out, at, n, s)
             }
         }
-        Card::Bid { bidder, round } => of_bid(out, at, n, s, bidder, round, lines),
+        Ok(Bid { bidder, round }) => of_bid(out, at, n, s, bidder, round, lines),
     }
 }

@@ -1,7 +1,7 @@
 // A card and its fields: 4, 5, 29 and 30.
-use crate::{put_allowed, put_outside};
+use crate::put_outside;
 use card::{MOST_BIDDER, MOST_EXIT, MOST_PRIORITY, MOST_ROUND, MOST_TRANCHES, field_limits, up_to};
-use rules::{Limits, Line, Lot, Lots};
+use rules::{Line, Lot, Lots};
 use text::{ANSWER, put, put_hex};
 use view::put_form;
 
@@ -53,25 +53,6 @@ pub fn of_read(out: &mut [u8; ANSWER], at: usize, n: u8, card: &[u8], products: 
     }
 }
 
-// A number of a lot that its limits do not hold, by its form; the place where they do.
-fn put_outside_lot(
-    out: &mut [u8; ANSWER],
-    at: usize,
-    form: &[u8],
-    p: usize,
-    i: usize,
-    x: u32,
-    allowed: Limits,
-) -> usize {
-    if allowed.holds(x) {
-        return at;
-    }
-    let lot = std::num::wrapping_add_u64(i as u64, 1);
-    let numbers = [p as u64, lot, x as u64];
-    let a = put_form(out, at, form, &numbers);
-    put_allowed(out, a, allowed)
-}
-
 fn put_lot(
     out: &mut [u8; ANSWER],
     at: usize,
@@ -79,69 +60,71 @@ fn put_lot(
     p: usize,
     i: usize,
     l: Lot,
-) -> usize {
-    let a = put_outside_lot(
-        out,
-        at,
-        b": product %, lot #, withdrawn #",
-        p,
-        i,
-        l.count.0 as u32,
-        field_limits(products, p, MOST_TRANCHES),
-    );
-    if a != at {
-        return a;
-    }
-    put_outside_lot(
-        out,
-        at,
-        b": product %, lot #, exit #",
-        p,
-        i,
-        l.exit,
-        field_limits(products, p, MOST_EXIT),
-    )
-}
-
-// The first lot that does not fit.
-fn put_lots(out: &mut [u8; ANSWER], at: usize, products: usize, p: usize, l: Lots) -> usize {
-    let mut i: usize = 0;
-    while i < 4 {
-        let to = put_lot(out, at, products, p, i, l.at(i));
-        if to != at {
-            return to;
-        }
-        i += 1;
-    }
-    at
-}
-
-// The first field of a line that does not fit.
-fn put_line(out: &mut [u8; ANSWER], at: usize, products: usize, p: usize, l: Line) -> usize {
-    let place = p as u64;
-    let a = put_outside(
-        out,
-        at,
-        b": product %, tranches #",
-        place,
-        l.tranches.0 as u32,
-        field_limits(products, p, MOST_TRANCHES),
-    );
-    if a != at {
-        return a;
-    }
-    let b = put_lots(out, at, products, p, l.withdrawn);
-    if b != at {
-        return b;
-    }
+) -> Option<usize> {
+    let lot = (i as u64).wrapping_add(1);
+    let count = l.count.0 as u32;
+    let tranches = field_limits(products, p, MOST_TRANCHES);
+    let exit = field_limits(products, p, MOST_EXIT);
     put_outside(
         out,
         at,
-        b": product %, priority #",
-        place,
-        l.priority as u32,
-        field_limits(products, p, MOST_PRIORITY),
+        b": product %, lot #, withdrawn #",
+        &[p as u64, lot, count as u64],
+        count,
+        tranches,
     )
+    .or_else(|| {
+        put_outside(
+            out,
+            at,
+            b": product %, lot #, exit #",
+            &[p as u64, lot, l.exit as u64],
+            l.exit,
+            exit,
+        )
+    })
+}
+
+// The first lot that does not fit.
+fn put_lots(
+    out: &mut [u8; ANSWER],
+    at: usize,
+    products: usize,
+    p: usize,
+    l: Lots,
+) -> Option<usize> {
+    (0..4).find_map(|i| put_lot(out, at, products, p, i, l.at(i)))
+}
+
+// The first field of a line that does not fit.
+fn put_line(
+    out: &mut [u8; ANSWER],
+    at: usize,
+    products: usize,
+    p: usize,
+    l: Line,
+) -> Option<usize> {
+    let bid = l.tranches.0 as u32;
+    let priority = l.priority as u32;
+    put_outside(
+        out,
+        at,
+        b": product %, tranches #",
+        &[p as u64, bid as u64],
+        bid,
+        field_limits(products, p, MOST_TRANCHES),
+    )
+    .or_else(|| put_lots(out, at, products, p, l.withdrawn))
+    .or_else(|| {
+        put_outside(
+            out,
+            at,
+            b": product %, priority #",
+            &[p as u64, priority as u64],
+            priority,
+            field_limits(products, p, MOST_PRIORITY),
+        )
+    })
 }
 
 // 30
@@ -152,24 +135,12 @@ fn put_field(
     bidder: u8,
     round: u16,
     lines: [Line; 8],
-) -> usize {
+) -> Option<usize> {
     let b = bidder as u32;
-    if !up_to(MOST_BIDDER).holds(b) {
-        return put_outside(out, at, b": bidder &", b as u64, b, up_to(MOST_BIDDER));
-    }
     let r = round as u32;
-    if !up_to(MOST_ROUND).holds(r) {
-        return put_outside(out, at, b": round #", r as u64, r, up_to(MOST_ROUND));
-    }
-    let mut p: usize = 0;
-    while p < 8 {
-        let to = put_line(out, at, products, p, lines[p]);
-        if to != at {
-            return to;
-        }
-        p += 1;
-    }
-    at
+    put_outside(out, at, b": bidder &", &[b as u64], b, up_to(MOST_BIDDER))
+        .or_else(|| put_outside(out, at, b": round #", &[r as u64], r, up_to(MOST_ROUND)))
+        .or_else(|| (0..8).find_map(|p| put_line(out, at, products, p, lines[p])))
 }
 
 pub fn of_write(
@@ -183,7 +154,7 @@ pub fn of_write(
 ) -> usize {
     match n {
         29 => put_count(out, at, products),
-        30 => put_field(out, at, products, bidder, round, lines),
+        30 => put_field(out, at, products, bidder, round, lines).unwrap_or(at),
         _ => at,
     }
 }

@@ -9,30 +9,22 @@ use rules::Tranches;
 use text::{ANSWER, put};
 use view::put_form;
 
-fn put_round(out: &mut [u8; ANSWER], at: usize, s: &[u8; STATE]) -> usize {
+fn put_round(out: &mut [u8; ANSWER], at: usize, s: &[u8; STATE]) -> Option<usize> {
     let round = book::round(s);
     if round == ROUND {
-        return at;
+        return None;
     }
-    let numbers = [round as u64, ROUND as u64];
-    put_form(
+    Some(put_form(
         out,
         at,
         b": this is round #, and a cutback belongs to round #",
-        &numbers,
-    )
+        &[round as u64, ROUND as u64],
+    ))
 }
 
-fn put_filed(out: &mut [u8; ANSWER], at: usize, s: &[u8; STATE]) -> usize {
-    let mut b: usize = 0;
-    while b < 32 {
-        if book::has_filed(s, b) {
-            let numbers = [b as u64];
-            return put_form(out, at, b": bidder & has filed", &numbers);
-        }
-        b += 1;
-    }
-    at
+fn put_filed(out: &mut [u8; ANSWER], at: usize, s: &[u8; STATE]) -> Option<usize> {
+    let b = (0..32).find(|b| book::has_filed(s, *b))?;
+    Some(put_form(out, at, b": bidder & has filed", &[b as u64]))
 }
 
 fn put_product(
@@ -43,29 +35,29 @@ fn put_product(
     cap: Tranches,
     last: u32,
     p: usize,
-) -> usize
+) -> Option<usize>
     requires { p < 8 }
 {
-    let place = p as u64;
-    let a = put_outside(
-        out,
-        at,
-        b": product %, target #",
-        place,
-        target.0 as u32,
-        target_limits(s, last, p),
-    );
-    if a != at {
-        return a;
-    }
+    let target_allowed = target_limits(s, last, p);
+    let cap_allowed = cap_limits(s, target, p);
     put_outside(
         out,
         at,
-        b": product %, cap #",
-        place,
-        cap.0 as u32,
-        cap_limits(s, target, p),
+        b": product %, target #",
+        &[p as u64, target.0 as u64],
+        target.0 as u32,
+        target_allowed,
     )
+    .or_else(|| {
+        put_outside(
+            out,
+            at,
+            b": product %, cap #",
+            &[p as u64, cap.0 as u64],
+            cap.0 as u32,
+            cap_allowed,
+        )
+    })
 }
 
 fn put_products(
@@ -74,22 +66,17 @@ fn put_products(
     s: &[u8; STATE],
     targets: [Tranches; 8],
     caps: [Tranches; 8],
-) -> usize {
-    let n = book::products(s);
+) -> Option<usize> {
     let mut last = ANY;
-    let mut p: usize = 0;
-    while p < 8 {
+    for p in 0..book::products(s).min(8) {
         let target = targets[p];
-        if p < n {
-            let to = put_product(out, at, s, target, caps[p], last, p);
-            if to != at {
-                return to;
-            }
+        let said = put_product(out, at, s, target, caps[p], last, p);
+        if said.is_some() {
+            return said;
         }
         last = target.0 as u32;
-        p += 1;
     }
-    at
+    None
 }
 
 fn put_volume(out: &mut [u8; ANSWER], at: usize, s: &[u8; STATE], targets: [Tranches; 8]) -> usize {
@@ -110,19 +97,10 @@ fn put_condition(
     targets: [Tranches; 8],
     caps: [Tranches; 8],
 ) -> usize {
-    let a = put_round(out, at, s);
-    if a != at {
-        return a;
-    }
-    let b = put_filed(out, at, s);
-    if b != at {
-        return b;
-    }
-    let c = put_products(out, at, s, targets, caps);
-    if c != at {
-        return c;
-    }
-    put_volume(out, at, s, targets)
+    put_round(out, at, s)
+        .or_else(|| put_filed(out, at, s))
+        .or_else(|| put_products(out, at, s, targets, caps))
+        .unwrap_or_else(|| put_volume(out, at, s, targets))
 }
 
 pub fn of_cutback(

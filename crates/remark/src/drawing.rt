@@ -1,23 +1,24 @@
 // The draw order, the overrides and the order of the products: 14, 19 and 23.
-use crate::{last_of, of_phase, put_outside, wide};
+use crate::{last_of, of_phase, put_outside};
 use layout::STATE;
-use rules::{Chosen, Override};
+use rules::BasisPoints;
 use table::{is_drawn, is_known, times_drawn};
 use text::{ANSWER, put};
 use view::put_form;
 
-// What comes before a part: the first of them begins the remark.
-fn put_lead(out: &mut [u8; ANSWER], at: usize, begun: bool) -> usize {
-    if begun {
-        return put(out, at, b", ");
-    }
-    put(out, at, b": ")
-}
-
-// One of those that an order is of, by its form: `bidder &` or `product %`.
-fn put_one(out: &mut [u8; ANSWER], at: usize, form: &[u8], n: u64) -> usize {
-    let numbers = [n];
-    put_form(out, at, form, &numbers)
+// A part of the remark, of which the first begins it: one of those that an order is of, by its form, `bidder &` or `product %`, and what
+// is said of it.
+fn put_part(
+    out: &mut [u8; ANSWER],
+    at: usize,
+    begun: bool,
+    form: &[u8],
+    n: u64,
+    said: &[u8],
+) -> usize {
+    let a = put(out, at, if begun { b", " } else { b": " });
+    let b = put_form(out, a, form, &[n]);
+    put(out, b, said)
 }
 
 // The first entry that is none of them.
@@ -28,16 +29,10 @@ fn put_unknown(
     count: usize,
     form: &[u8],
 ) -> usize {
-    let mut i: usize = 0;
-    while i < order.len() {
-        if !is_known(order[i], count) {
-            let a = put_lead(out, at, false);
-            let b = put_one(out, a, form, wide(order[i]));
-            return put(out, b, b" is unknown");
-        }
-        i += 1;
+    match order.iter().find(|x| !is_known(**x, count)) {
+        Some(x) => put_part(out, at, false, form, *x as u64, b" is unknown"),
+        None => at,
     }
-    at
 }
 
 // The first that stands more than once.
@@ -49,20 +44,13 @@ fn put_twice(
     form: &[u8],
     begun: bool,
 ) -> usize {
-    let mut b: usize = 0;
-    while b < 32 {
-        if count <= b {
-            return at;
+    match (0..count.min(32)).find(|b| 1 < times_drawn(order, *b)) {
+        Some(b) => {
+            let a = put_part(out, at, begun, form, b as u64, b" stands ");
+            put_form(out, a, b"# times", &[times_drawn(order, b) as u64])
         }
-        let times = times_drawn(order, b);
-        if 1 < times {
-            let a = put_lead(out, at, begun);
-            let to = put_one(out, a, form, b as u64);
-            return put_one(out, to, b" stands # times", times as u64);
-        }
-        b += 1;
+        None => at,
     }
-    at
 }
 
 // The first that is missing.
@@ -74,19 +62,10 @@ fn put_missing(
     form: &[u8],
     begun: bool,
 ) -> usize {
-    let mut b: usize = 0;
-    while b < 32 {
-        if count <= b {
-            return at;
-        }
-        if !is_drawn(order, order.len(), b) {
-            let a = put_lead(out, at, begun);
-            let to = put_one(out, a, form, b as u64);
-            return put(out, to, b" is missing");
-        }
-        b += 1;
+    match (0..count.min(32)).find(|b| !is_drawn(order, order.len(), *b)) {
+        Some(b) => put_part(out, at, begun, form, b as u64, b" is missing"),
+        None => at,
     }
-    at
 }
 
 // What is wrong with an order of so many; the last form says which they are.
@@ -104,7 +83,7 @@ fn put_order(
     if c == at {
         return at;
     }
-    put_one(out, c, all, last_of(count))
+    put_form(out, c, all, &[last_of(count)])
 }
 
 fn put_draw(out: &mut [u8; ANSWER], at: usize, draw: &[u8], bidders: usize) -> usize {
@@ -129,33 +108,32 @@ fn put_products(out: &mut [u8; ANSWER], at: usize, order: &[u8], products: usize
     )
 }
 
-fn put_override(out: &mut [u8; ANSWER], at: usize, p: usize, given: Override) -> usize {
+fn put_override(
+    out: &mut [u8; ANSWER],
+    at: usize,
+    p: usize,
+    given: Option<BasisPoints>,
+) -> Option<usize> {
     match given {
-        Override::None => at,
-        Override::Points(by) => put_outside(
+        None => None,
+        Some(by) => put_outside(
             out,
             at,
             b": product %, # basis points",
-            p as u64,
+            &[p as u64, by.0 as u64],
             by.0 as u32,
-            Override::limits(),
+            rules::override_limits(),
         ),
     }
 }
 
 // The first that is outside its limits.
-fn put_overrides(out: &mut [u8; ANSWER], at: usize, overrides: [Chosen; 8]) -> usize {
-    let mut p: usize = 0;
-    while p < 8 {
-        let chosen = overrides[p];
-        let given = chosen.decrement;
-        let to = put_override(out, at, p, given);
-        if to != at {
-            return to;
-        }
-        p += 1;
-    }
-    at
+fn put_overrides(
+    out: &mut [u8; ANSWER],
+    at: usize,
+    overrides: [Option<BasisPoints>; 8],
+) -> Option<usize> {
+    (0..8).find_map(|p| put_override(out, at, p, overrides[p]))
 }
 
 pub fn of_round(
@@ -164,12 +142,12 @@ pub fn of_round(
     n: u8,
     s: &[u8; STATE],
     draw: &[u8],
-    overrides: [Chosen; 8],
+    overrides: [Option<BasisPoints>; 8],
     order: &[u8],
 ) -> usize {
     match n {
         14 => put_draw(out, at, draw, book::bidders(s)),
-        19 => put_overrides(out, at, overrides),
+        19 => put_overrides(out, at, overrides).unwrap_or(at),
         23 => put_products(out, at, order, book::products(s)),
         _ => of_phase(out, at, n, s),
     }

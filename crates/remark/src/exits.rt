@@ -1,5 +1,5 @@
 // 12: the first lot of a product that is against it, and what would be allowed there.
-ghost use Rattle.std.specs.Prelude.{◌≡◌, ◌<◌, not, nat_lt};
+ghost use Rattle.std.specs.Prelude.{◌≡◌, ◌<◌, not, is_some, IfSome};
 ghost use Rattle.rules.specs.Lots.{exits_fit};
 
 use crate::put_allowed;
@@ -9,23 +9,24 @@ use rules::{Limits, Lot, Lots};
 use text::ANSWER;
 use view::put_form;
 
-// The place of that lot, 0 to 3; 4 where number 12 is not given. By the tests of `Lots::exits_fit`, lot by lot.
-fn first_wrong(l: Lots, p: u32, q: u32) -> usize
-    ensures { nat_lt result 4 ≡ not (exits_fit p q l) }
+// The place of that lot, 0 to 3; none where number 12 is not given. By the tests of `Lots::exits_fit`, lot by lot.
+fn first_wrong(l: Lots, p: u32, q: u32) -> Option<usize>
+    ensures found { is_some result ≡ not (exits_fit p q l) }
+    ensures small { IfSome result (λ k. k < 4) }
 {
     if !(l.one.leads() & l.one.exit_fits(p, q)) {
-        return 0;
+        return Some(0);
     }
     if !(l.two.follows(l.one) & l.two.exit_fits(p, q)) {
-        return 1;
+        return Some(1);
     }
     if !(l.three.follows(l.two) & l.three.exit_fits(p, q)) {
-        return 2;
+        return Some(2);
     }
     if !(l.four.follows(l.three) & l.four.exit_fits(p, q)) {
-        return 3;
+        return Some(3);
     }
-    4
+    None
 }
 
 // An unused lot with a price.
@@ -42,7 +43,7 @@ fn put_unused(out: &mut [u8; ANSWER], at: usize, p: u64, i: u64, lot: Lot) -> us
 // What the exit price of a used lot behind another may be: above that one's, which is above p already, and at most q.
 fn above(last: Lot, q: u32) -> Limits {
     Limits {
-        least: std::num::wrapping_add_u32(last.exit, 1),
+        least: last.exit.wrapping_add(1),
         most: q,
     }
 }
@@ -57,7 +58,7 @@ fn put_after(
     last: Lot,
     q: u32,
 ) -> usize {
-    let before = std::num::wrapping_sub_u64(i, 1);
+    let before = i.wrapping_sub(1);
     if last.count.0 == 0 {
         let numbers = [p, i, before];
         return put_form(
@@ -84,11 +85,10 @@ pub fn put_exit(out: &mut [u8; ANSWER], at: usize, s: &[u8; STATE], p: usize, l:
     let before = book::before(s, p);
     let low = price.amount();
     let high = before.amount();
-    let k = first_wrong(l, low, high);
-    let lot = l.at(k);
-    if 3 < k {
+    let Some(k) = first_wrong(l, low, high) else {
         return at;
-    }
+    };
+    let lot = l.at(k);
     let i = k as u64 + 1;
     if lot.count.0 == 0 {
         return put_unused(out, at, p as u64, i, lot);

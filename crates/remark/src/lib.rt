@@ -1,6 +1,6 @@
 // After the number and the words of a refusal: `: REMARK`, what is wrong and what would be allowed. A place is found by the tests that the
-// number is judged by, so that no limit stands here. Each function puts its remark at a place of the answer and gives the place after it; the
-// place itself where it has nothing to say. The line's end is left to the caller.
+// number is judged by, so that no limit stands here. Each function puts its remark at a place of the answer and gives the place after it;
+// where it has nothing to say the place itself, or None where the next one may have something to say. The line's end is left to the caller.
 #![tactic(auto)]
 
 mod bidding;
@@ -33,31 +33,23 @@ fn put_allowed(out: &mut [u8; ANSWER], at: usize, allowed: Limits) -> usize {
     put_form(out, at, b"; # to # is allowed", &numbers)
 }
 
-// A number that its limits do not hold, by its form; the place where they do.
+// A number that its limits do not hold, by its form; nothing where they do.
 fn put_outside(
     out: &mut [u8; ANSWER],
     at: usize,
     form: &[u8],
-    place: u64,
+    numbers: &[u64],
     x: u32,
     allowed: Limits,
-) -> usize {
+) -> Option<usize> {
     if allowed.holds(x) {
-        return at;
+        return None;
     }
-    let numbers = [place, x as u64];
-    let a = put_form(out, at, form, &numbers);
-    put_allowed(out, a, allowed)
+    let a = put_form(out, at, form, numbers);
+    Some(put_allowed(out, a, allowed))
 }
 
 // The number of the last of n, which are counted from 0.
 fn last_of(n: usize) -> u64 {
-    if n == 0 {
-        return 0;
-    }
-    (n - 1) as u64
-}
-
-fn wide(x: u8) -> u64 {
-    x as u64
+    n.saturating_sub(1) as u64
 }

@@ -1,5 +1,5 @@
 // What stands in the box: 1, 2, 3, 16, 17 and 18.
-use crate::{last_of, wide};
+use crate::last_of;
 use layout::STATE;
 use rules::Phase;
 use text::{ANSWER, put};
@@ -17,20 +17,15 @@ fn put_standing(out: &mut [u8; ANSWER], at: usize, s: &[u8; STATE]) -> usize {
 
 // The first byte that is not zero.
 fn put_byte(out: &mut [u8; ANSWER], at: usize, s: &[u8; STATE]) -> usize {
-    let mut i: usize = 0;
-    while i < STATE {
-        if s[i] != 0 {
-            let numbers = [i as u64, wide(s[i])];
-            return put_form(out, at, b": byte # is #", &numbers);
-        }
-        i += 1;
+    match s.iter().position(|x| *x != 0) {
+        Some(i) => put_form(out, at, b": byte # is #", &[i as u64, s[i] as u64]),
+        None => at,
     }
-    at
 }
 
 // 17: the auction that stands, or a byte.
 fn put_left(out: &mut [u8; ANSWER], at: usize, s: &[u8; STATE]) -> usize {
-    if numbers::state_number(s) != 0 {
+    if numbers::state_number(s).is_err() {
         return put_byte(out, at, s);
     }
     let numbers = [book::round(s) as u64];

@@ -11,9 +11,10 @@ ghost use Rattle.rules.specs.Layout.{loaded};
 ghost use Rattle.book.specs.Lent.{Long, Lent};
 
 use rules::{
-    Award, Awarded, GoingPrice, Lot, Lots, Phase, Price, Quote, Range, Record, Report, Reported,
+    Awarded, GoingPrice, Lot, Lots, Phase, Price, Quote, Range, Record, Refusal, Report, Reported,
     Tranches,
 };
+use std::array;
 
 fn no_quotes() -> [Quote; 8]
     ensures { result ≡ replicate 8 (quote 0 0) }
@@ -30,13 +31,7 @@ fn own_records(s: &[u8], b: usize) -> [Record; 8]
     requires { Long s.now × (b < 32) }
     ensures { result ≡ list_of (record_of (loaded s.now) b) 8 }
 {
-    let mut own = [Record::none(); 8];
-    let mut p: usize = 0;
-    while p < 8 {
-        own[p] = book::record(s, b * 8 + p);
-        p += 1;
-    }
-    own
+    array::from_fn(|p| book::record(s, b * 8 + p))
 }
 
 fn no_prices() -> [GoingPrice; 8]
@@ -53,18 +48,10 @@ fn going_prices(s: &[u8]) -> [GoingPrice; 8]
     requires { Long s.now }
     ensures { result ≡ list_of (going_on (loaded s.now)) 8 }
 {
-    let mut prices = no_prices();
-    let mut p: usize = 0;
-    while p < 8 {
-        let x = book::price(s, p);
-        let overridden = book::mark(s, p) > 0;
-        prices[p] = GoingPrice {
-            price: x,
-            overridden,
-        };
-        p += 1;
-    }
-    prices
+    array::from_fn(|p| GoingPrice {
+        price: book::price(s, p),
+        overridden: book::mark(s, p) > 0,
+    })
 }
 
 pub fn report_on(s: &[u8], b: usize) -> Reported
@@ -76,22 +63,21 @@ pub fn report_on(s: &[u8], b: usize) -> Reported
     let range = Range::of(held::excess(s));
     let records = own_records(s, b);
     let prices = going_prices(s);
-    let report = Report::Given { free, phase, range };
     Reported {
-        report,
+        report: Ok(Report { free, phase, range }),
         records,
         prices,
     }
 }
 
-// A refused report answers its number beside all-zero arrays.
-pub fn refused_report(number: u8) -> Reported
-    ensures { result ≡ report_refused number }
+// A refused report answers why beside all-zero arrays.
+pub fn refused_report(why: Refusal) -> Reported
+    ensures { result ≡ report_refused why }
 {
     let records = [Record::none(); 8];
     let prices = no_prices();
     Reported {
-        report: Report::Refused(number),
+        report: Err(why),
         records,
         prices,
     }
@@ -158,11 +144,9 @@ fn highest(s: &[u8], p: usize) -> Price
     let price = book::price(s, p);
     let before = book::before(s, p);
     let mut most = Price::of(book::unit(s), 0);
-    let mut b: usize = 0;
-    while b < n {
+    for b in 0..n {
         let r = book::record(s, b * 8 + p);
         most = higher(most, highest_in(price, before, r));
-        b += 1;
     }
     most
 }
@@ -183,14 +167,9 @@ fn paid_prices(s: &[u8]) -> [Quote; 8]
     requires { Lent s.now }
     ensures { result ≡ list_of (λ p. quote (loaded s.now).terms.unit (paid_on (loaded s.now) p)) 8 }
 {
-    let mut prices = no_quotes();
-    let mut p: usize = 0;
-    while p < 8 {
-        let x = paid_on(s, p);
-        prices[p] = Quote { price: x };
-        p += 1;
-    }
-    prices
+    array::from_fn(|p| Quote {
+        price: paid_on(s, p),
+    })
 }
 
 // "g + d + r for each bidder and product"
@@ -198,13 +177,7 @@ fn awards(s: &[u8]) -> [Tranches; 256]
     requires { Long s.now }
     ensures { result ≡ list_of (λ k. tranches (held_in (record_at (loaded s.now).records k))) 256 }
 {
-    let mut won = [Tranches(0); 256];
-    let mut k: usize = 0;
-    while k < 256 {
-        won[k] = book::held(s, k);
-        k += 1;
-    }
-    won
+    array::from_fn(|k| book::held(s, k))
 }
 
 pub fn result_of(s: &[u8]) -> Awarded
@@ -214,20 +187,20 @@ pub fn result_of(s: &[u8]) -> Awarded
     let tranches = awards(s);
     let prices = paid_prices(s);
     Awarded {
-        award: Award::Given,
+        award: Ok(()),
         tranches,
         prices,
     }
 }
 
-// A refused result answers its number beside all-zero arrays.
-pub fn refused_result(number: u8) -> Awarded
-    ensures { result ≡ result_refused number }
+// A refused result answers why beside all-zero arrays.
+pub fn refused_result(why: Refusal) -> Awarded
+    ensures { result ≡ result_refused why }
 {
     let tranches = [Tranches(0); 256];
     let prices = no_quotes();
     Awarded {
-        award: Award::Refused(number),
+        award: Err(why),
         tranches,
         prices,
     }

@@ -8,11 +8,12 @@ use native.Mathlib.Nat.{div-add-mod'}
 use borrow.Author.Tests.{eqb-true, ltb-true, ltb-false}
 use lib.ListN.{get_or, length, get_or-eq_default}
 use lib.Dec.{ltb, eqb}
+use Rattle.std.specs.Prelude.{is_some}
 use Rattle.rules.specs.declared.Line.{Line}
 use Rattle.rules.specs.declared.Record.{Record}
 use Rattle.rules.specs.declared.Place.{Place}
 use Rattle.rules.specs.declared.Auction.{Auction}
-use Rattle.rules.specs.Count.{all_up_to, first_up_to, is_at}
+use Rattle.rules.specs.Count.{all_up_to, first_up_to}
 use Rattle.rules.specs.Lots.{count_of}
 use Rattle.rules.specs.Card.{no_line}
 use Rattle.rules.specs.Held.{entry, going_in, denied_in, retained_in, record_at, place, ticked}
@@ -117,7 +118,7 @@ module _ (a : Auction) (S : Stands a) where
 
 pub drawn_all : (n : ℕ) (order : List ℕ) → n ≤ 32 → draw_fits n order ≡ true → Drawn n order
 drawn_all n order l e =
-    let t : Bool = all_up_to (λ b. is_at (first_up_to (λ i. eqb (drawn order i) b) n)) n in
+    let t : Bool = all_up_to (λ b. is_some (first_up_to (λ i. eqb (drawn order i) b) n)) n in
     let r = and_right (eqb (length order) n) _ e in
     record {
       few = l;

@@ -6,8 +6,7 @@ use Prim.Native.Nat.{ℕ, zero, suc, ◌+◌, ◌-◌, ◌%◌, ◌≤◌, ◌<�
 use native.Mathlib.Omega.{arith}
 use native.Mathlib.Nat.{mod-lt}
 use lib.Dec.{eqb, ltb}
-use Rattle.rules.specs.declared.Pick.{Pick}
-use Rattle.rules.specs.declared.Pick.TheVariants.{At, Nobody}
+use Rattle.std.specs.Prelude.{Option, None, Some}
 use Rattle.rules.specs.declared.Place.{Place}
 use Rattle.rules.specs.declared.Kept.{Kept}
 use Rattle.rules.specs.declared.Outbid.{Outbid}
@@ -19,13 +18,13 @@ use Rattle.rules.specs.Plain.{keep_many, visit, visits, passes}
 use Rattle.rules.specs.Outbid.{deem_if, deemed_up_to, while_over, outbid_step, over, outbid_loop}
 use Rattle.table.proofs.Laws.{first_ext}
 
-while_short_lem : (q : Pick) (f g : ℕ → Kept) (done : Kept) → ((p : ℕ) → f p ≡ g p) → while_short q f done ≡ while_short q g done
-while_short_lem (At p) f g done h = h p
-while_short_lem Nobody f g done h = refl
+while_short_lem : (q : Option ℕ) (f g : ℕ → Kept) (done : Kept) → ((p : ℕ) → f p ≡ g p) → while_short q f done ≡ while_short q g done
+while_short_lem (Some p) f g done h = h p
+while_short_lem None f g done h = refl
 
-while_over_lem : (q : Pick) (f g : ℕ → Outbid) (done : Outbid) → ((p : ℕ) → f p ≡ g p) → while_over q f done ≡ while_over q g done
-while_over_lem (At p) f g done h = h p
-while_over_lem Nobody f g done h = refl
+while_over_lem : (q : Option ℕ) (f g : ℕ → Outbid) (done : Outbid) → ((p : ℕ) → f p ≡ g p) → while_over q f done ≡ while_over q g done
+while_over_lem (Some p) f g done h = h p
+while_over_lem None f g done h = refl
 
 module _ (tick other : ℕ → Bool) (same : (p : ℕ) → p < 8 → tick p ≡ other p) where
   pub deemed_same : (ps : List Place) (k : ℕ) → deemed_up_to tick ps k ≡ deemed_up_to other ps k

@@ -7,8 +7,9 @@ use native.Mathlib.Omega.{arith}
 use borrow.Author.Tests.{eq-eqb, ne_eqb}
 use lib.Dec.{eqb}
 use lib.ListN.{get_or, replicate}
+use Rattle.rules.specs.declared.Calculation.{Calculation}
+use Rattle.rules.specs.Price.{Override}
 use Rattle.rules.specs.declared.Tranches.{Tranches}
-use Rattle.rules.specs.declared.Chosen.{Chosen}
 use Rattle.rules.specs.declared.Lane.{Lane}
 use Rattle.rules.specs.declared.Place.{Place}
 use Rattle.rules.specs.declared.Kept.{Kept}
@@ -39,7 +40,6 @@ use Rattle.prices.specs.declared.Lanes.{Lanes}
 use Rattle.prices.specs.declared.Outlook.{Outlook}
 use Rattle.prices.specs.Outlook.{Foresees, Shows}
 use Rattle.prices.proofs.Laws.{over_of, stops_of, price_of_lem, mark_of, before_of}
-use Rattle.round.specs.declared.Tally.{Tally}
 use Rattle.round.specs.Ready.{LanesOf, opens_with, Ready, Tallies}
 use Rattle.round.proofs.Bids.{drawn_all}
 use Rattle.round.proofs.Same.{deemed_same, keep_same, plain_same, outbid_same}
@@ -51,7 +51,7 @@ module _ (a : Auction) (ps : List Place) (free : List Tranches) (holds : List �
   abbrev o : Outbid
   o = outbid ps free 0
 
-  abbrev os : List Chosen
+  abbrev os : List Override
   os = l.overrides
 
   abbrev rest : Auction
@@ -172,11 +172,11 @@ module _ (s draw : List ℕ) (R : Ready s draw) where
             bytes = h ∙ ap (λ o. stored (settled a l.overrides o)) step-4;
           }
 
-      module _ {os : List Chosen} (g : l.overrides ≡ os) (ps qs : List Place) (k : ℕ) (e : ps ≡ accepted_all a) {r : Tally} {z : List ℕ}
+      module _ {os : List Override} (g : l.overrides ≡ os) (ps qs : List Place) (k : ℕ) (e : ps ≡ accepted_all a) {r : Calculation} {z : List ℕ}
           (F : Tallies (after_kept a draw l.overrides (kept qs k)) r z) where
         -- what step 2 is by its definition
         tallied : (x : Kept) → kept qs k ≡ x → Tallies (after_kept a draw os x) r z
-        tallied x f = subst (λ (y : List Chosen × Kept). Tallies (after_kept a draw y.0 y.1) r z) (ap₂ (λ os k. (os, k)) g f) F
+        tallied x f = subst (λ (y : List Override × Kept). Tallies (after_kept a draw y.0 y.1) r z) (ap₂ (λ os k. (os, k)) g f) F
 
         pub calculates : kept qs k ≡ kept_all m n (target_on l.target) (is_one ticks) (drawn draw) ps → Tallies (calculated a draw os) r z
         unfolding calculated

@@ -3,6 +3,7 @@ use Rattle.std.specs.Prelude.{◌≡◌, true, List, ℕ, ◌≤◌, ◌<◌, le
 use Rattle.rules.specs.declared.Auction.{Auction}
 use Rattle.rules.specs.declared.Place.{Place}
 use Rattle.rules.specs.declared.Calculated.{Calculated}
+use Rattle.rules.specs.declared.Calculation.{Calculation}
 use Rattle.rules.specs.Answers.{bids_open}
 use Rattle.rules.specs.Parts.{with_phase, with_round, with_prices, with_marks}
 use Rattle.rules.specs.Settings.{setup, target_of}
@@ -16,7 +17,6 @@ use Rattle.held.specs.Ticks.{Ticks}
 use Rattle.table.specs.Room.{Room}
 use Rattle.prices.specs.declared.Lanes.{Lanes}
 use Rattle.prices.specs.Outlook.{Listed}
-use Rattle.round.specs.declared.Tally.{Tally}
 
 -- the targets and prices of a
 abbrev pub LanesOf : Lanes → Auction → Type 0
@@ -59,7 +59,7 @@ pub record Finishing (s draw marks : List ℕ) (l : Lanes) (ps : List Place) : T
   pub room : Room ps
 
 -- what a calculation answers, and the bytes after it
-pub record Tallies (c : Calculated) (r : Tally) (z : List ℕ) : Type 0 where
+pub record Tallies (c : Calculated) (r : Calculation) (z : List ℕ) : Type 0 where
   pub kept : r.kept ≡ c.kept
   pub outbid : r.outbid ≡ c.outbid
   pub bytes : z ≡ stored c.auction

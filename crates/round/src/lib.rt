@@ -18,7 +18,10 @@ ghost use Rattle.storing.specs.Written.{Writes, amount_at};
 ghost use Rattle.round.specs.Ready.{Accepting, LanesOf, opens_with, Settling, Ready, ReadyFor, Finishing, Tallies};
 
 use prices::Lanes;
-use rules::{CLOSED, Chosen, Line, OPEN, Place, Price, Quote, Record, STOPPED, Tranches};
+use rules::{
+    BasisPoints, CLOSED, Calculation, Line, OPEN, Place, Price, Quote, Record, STOPPED, Tranches,
+};
+use std::array;
 use table::WIDTH;
 
 // ---- Step 1: "Take all bids as accepted."
@@ -59,8 +62,7 @@ fn accept_all(s: &[u8], ticks: &[u8; 8], ps: &mut [[u32; WIDTH]; 256])
     requires { Accepting s.now ticks.now ps.old }
     ensures { places_in ps.new ≡ accepted_all (loaded s.now) }
 {
-    let mut k: usize = 0;
-    while k < 256 {
+    for k in 0..256 {
         let r = book::record(s, k);
         let l = book::line(s, k);
         let bid = bid_of(
@@ -71,35 +73,23 @@ fn accept_all(s: &[u8], ticks: &[u8; 8], ps: &mut [[u32; WIDTH]; 256])
             r,
         );
         table::put(ps, k, accept(r, bid));
-        k += 1;
     }
 }
 
 // ---- The targets, prices and overrides that the round goes by
 
-fn lanes_of(s: &[u8], overrides: [Chosen; 8]) -> Lanes
+fn lanes_of(s: &[u8], overrides: [Option<BasisPoints>; 8]) -> Lanes
     requires { Long s.now }
     ensures { LanesOf result (loaded s.now) × (result.overrides ≡ overrides) }
 {
-    let none = Quote {
-        price: Price::of(0, 0),
-    };
-    let mut target = [0u16; 8];
-    let mut price = [none; 8];
-    let mut before = [none; 8];
-    let mut p: usize = 0;
-    while p < 8 {
-        target[p] = book::target(s, p).0;
-        let going = book::price(s, p);
-        price[p] = Quote { price: going };
-        let last = book::before(s, p);
-        before[p] = Quote { price: last };
-        p += 1;
-    }
     Lanes {
-        target,
-        price,
-        before,
+        target: array::from_fn(|p| book::target(s, p).0),
+        price: array::from_fn(|p| Quote {
+            price: book::price(s, p),
+        }),
+        before: array::from_fn(|p| Quote {
+            price: book::before(s, p),
+        }),
         overrides,
     }
 }
@@ -112,11 +102,8 @@ fn all_free(free: [Tranches; 32], bidders: usize) -> u64
     ensures { (result ≡ sum_up_to (tranches_at free) bidders) × (result ≤ 2097120) }
 {
     let mut sum: u64 = 0;
-    let mut b: usize = 0;
-    while b < bidders {
-        let f = free[b];
-        sum += f.0 as u64;
-        b += 1;
+    for b in 0..bidders {
+        sum += free[b].0 as u64;
     }
     sum
 }
@@ -175,13 +162,6 @@ fn settle(s: &mut [u8], ps: &[[u32; WIDTH]; 256], free: [Tranches; 32], l: Lanes
 
 // ---- The whole
 
-// "The calculation answers the count of tranches kept in step 2 and outbid in step 4."
-#[derive(Clone, Copy)]
-pub struct Tally {
-    pub kept: u32,
-    pub outbid: u32,
-}
-
 // Steps 3 to 5, once step 2 has kept so many tranches.
 fn finish(
     s: &mut [u8],
@@ -190,7 +170,7 @@ fn finish(
     draw: &[u8],
     lanes: Lanes,
     count: u32,
-) -> Tally
+) -> Calculation
     requires { Finishing s.old draw.now ticks.now lanes (places_in ps.old) }
     ensures { Tallies (after_kept (loaded s.old) draw.now lanes.overrides (kept (places_in ps.old) count)) result s.new }
 {
@@ -201,13 +181,13 @@ fn finish(
     let o = outbid::outbid_all(ps, &targets, ticks, draw, products, bidders);
     let free = o.free;
     settle(s, ps, free, lanes);
-    Tally {
+    Calculation {
         kept: count,
         outbid: o.count,
     }
 }
 
-pub fn calculate(s: &mut [u8], draw: &[u8], overrides: [Chosen; 8]) -> Tally
+pub fn calculate(s: &mut [u8], draw: &[u8], overrides: [Option<BasisPoints>; 8]) -> Calculation
     requires { Ready s.old draw.now }
     ensures { Tallies (calculated (loaded s.old) draw.now overrides) result s.new }
 {
@@ -223,7 +203,12 @@ pub fn calculate(s: &mut [u8], draw: &[u8], overrides: [Chosen; 8]) -> Tally
 }
 
 // The same, but that step 2 goes by an order of the products.
-pub fn calculate_plain(s: &mut [u8], draw: &[u8], overrides: [Chosen; 8], order: &[u8]) -> Tally
+pub fn calculate_plain(
+    s: &mut [u8],
+    draw: &[u8],
+    overrides: [Option<BasisPoints>; 8],
+    order: &[u8],
+) -> Calculation
     requires { ReadyFor s.old draw.now order.now }
     ensures { Tallies (calculated_plain (loaded s.old) draw.now overrides order.now) result s.new }
 {

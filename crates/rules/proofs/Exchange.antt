@@ -7,8 +7,7 @@ use native.Mathlib.Decide.{ℕ_discrete}
 use native.Mathlib.Omega.{arith}
 use lib.Seq.{get_or-set_other}
 use lib.Dec.{ltb}
-use Rattle.rules.specs.declared.Pick.{Pick}
-use Rattle.rules.specs.declared.Pick.TheVariants.{At, Nobody}
+use Rattle.std.specs.Prelude.{Option, None, Some}
 use Rattle.rules.specs.declared.Place.{Place}
 use Rattle.rules.specs.Count.{never}
 use Rattle.rules.specs.Lots.{lowest, total}
@@ -61,9 +60,9 @@ module _ (m : ℕ) where
   -- a change that touches neither may be exchanged with it
   module _ (u : Place → Place) (flat : (x : Place) → Alike x (u x)) (c : (x : Place) → cancel (u x) ≡ u (cancel x))
       (b : ℕ) (ps : List Place) (k : ℕ) where
-    cancel_by_lem : (q : Pick) → cancel_by q (changed u ps k) b ≡ changed u (cancel_by q ps b) k
-    cancel_by_lem (At p) = swap cancel u c ps (b * 8 + p) k
-    cancel_by_lem Nobody = refl
+    cancel_by_lem : (q : Option ℕ) → cancel_by q (changed u ps k) b ≡ changed u (cancel_by q ps b) k
+    cancel_by_lem (Some p) = swap cancel u c ps (b * 8 + p) k
+    cancel_by_lem None = refl
 
     cancel_after : cancel_one b (changed u ps k) ≡ changed u (cancel_one b ps) k
     cancel_after =
@@ -73,17 +72,17 @@ module _ (m : ℕ) where
 
   module _ (hm : m ≤ 8) (ps : List Place) where
     -- the increases of another bidder stay
-    stays_by : (b c : ℕ) → (b ≡ c → ⊥) → (r : Pick) → risen m ps c ≡ r → risen m (cancel_by r ps c) b ≡ risen m ps b
-    stays_by b c d (At i) e =
+    stays_by : (b c : ℕ) → (b ≡ c → ⊥) → (r : Option ℕ) → risen m ps c ≡ r → risen m (cancel_by r ps c) b ≡ risen m ps b
+    stays_by b c d (Some i) e =
         let l = (best_found (λ p. ltb 0 (rise_of (place_at ps (c * 8 + p)))) _ m i e).0 in
         risen_stays b ps (changed cancel ps (c * 8 + i)) (λ p k.
         let s = other cancel ps (c * 8 + i) (b * 8 + p) (λ f. d (omega arith)) in (ap rise_of s, ap (λ x. x.priority) s))
-    stays_by b c d Nobody e = refl
+    stays_by b c d None e = refl
 
-    pick_swap : (b c : ℕ) (q r : Pick) → cancel_by q (cancel_by r ps c) b ≡ cancel_by r (cancel_by q ps b) c
-    pick_swap b c (At p) (At r) = swap cancel cancel (λ x. refl) ps (b * 8 + p) (c * 8 + r)
-    pick_swap b c (At p) Nobody = refl
-    pick_swap b c Nobody r = refl
+    pick_swap : (b c : ℕ) (q r : Option ℕ) → cancel_by q (cancel_by r ps c) b ≡ cancel_by r (cancel_by q ps b) c
+    pick_swap b c (Some p) (Some r) = swap cancel cancel (λ x. refl) ps (b * 8 + p) (c * 8 + r)
+    pick_swap b c (Some p) None = refl
+    pick_swap b c None r = refl
 
     -- so two of them may be exchanged
     cancel_swap : (b c : ℕ) → cancel_one b (cancel_one c ps) ≡ cancel_one c (cancel_one b ps)
@@ -99,15 +98,15 @@ module _ (m : ℕ) where
 -- ---- a step by the withdrawal or the switch that it keeps
 
 module _ (m n : ℕ) (draw : ℕ → ℕ) where
-  abbrev act : Pick → Pick → ℕ → List Place → List Place
-  act (At i) r p ps = changed retain ps (draw i * 8 + p)
-  act Nobody (At i) p ps = cancel_one m (draw i) (changed deny ps (draw i * 8 + p))
-  act Nobody Nobody p ps = ps
+  abbrev act : Option ℕ → Option ℕ → ℕ → List Place → List Place
+  act (Some i) r p ps = changed retain ps (draw i * 8 + p)
+  act None (Some i) p ps = cancel_one m (draw i) (changed deny ps (draw i * 8 + p))
+  act None None p ps = ps
 
-  step_by : (ps : List Place) (p : ℕ) (q r : Pick) → leaver n draw ps p ≡ q → mover n draw ps p ≡ r → keep_step m n draw ps p ≡ act q r p ps
-  step_by ps p (At i) r e g = retain_first m n draw ps p i e
-  step_by ps p Nobody (At i) e g = deny_next m n draw ps p i e g
-  step_by ps p Nobody Nobody e g = rw (e, g)
+  step_by : (ps : List Place) (p : ℕ) (q r : Option ℕ) → leaver n draw ps p ≡ q → mover n draw ps p ≡ r → keep_step m n draw ps p ≡ act q r p ps
+  step_by ps p (Some i) r e g = retain_first m n draw ps p i e
+  step_by ps p None (Some i) e g = deny_next m n draw ps p i e g
+  step_by ps p None None e g = rw (e, g)
 
   -- what is kept on p where the places are ps
   abbrev chosen : List Place → ℕ → List Place → List Place
@@ -132,14 +131,14 @@ module _ (m n : ℕ) (draw : ℕ → ℕ) where
         ∙ ap (λ l. cancel_one m c (cancel_one m b l)) (swap deny deny (λ x. refl) ps (b * 8 + p) (c * 8 + q))
         ∙ ap (cancel_one m c) (cancel_after m deny (λ x. (refl, refl)) (λ x. refl) b (changed deny ps (b * 8 + p)) (c * 8 + q))
 
-    act_swap : (p q : ℕ) (x y z w : Pick) → act x y p (act z w q ps) ≡ act z w q (act x y p ps)
-    act_swap p q (At i) y (At j) w = swap retain retain (λ x. refl) ps (draw i * 8 + p) (draw j * 8 + q)
-    act_swap p q (At i) y Nobody (At j) = retain_deny (draw i * 8 + p) (draw j) q
-    act_swap p q (At i) y Nobody Nobody = refl
-    act_swap p q Nobody (At i) (At j) w = sym (retain_deny (draw j * 8 + q) (draw i) p)
-    act_swap p q Nobody (At i) Nobody (At j) = deny_deny (draw i) p (draw j) q
-    act_swap p q Nobody (At i) Nobody Nobody = refl
-    act_swap p q Nobody Nobody z w = refl
+    act_swap : (p q : ℕ) (x y z w : Option ℕ) → act x y p (act z w q ps) ≡ act z w q (act x y p ps)
+    act_swap p q (Some i) y (Some j) w = swap retain retain (λ x. refl) ps (draw i * 8 + p) (draw j * 8 + q)
+    act_swap p q (Some i) y None (Some j) = retain_deny (draw i * 8 + p) (draw j) q
+    act_swap p q (Some i) y None None = refl
+    act_swap p q None (Some i) (Some j) w = sym (retain_deny (draw j * 8 + q) (draw i) p)
+    act_swap p q None (Some i) None (Some j) = deny_deny (draw i) p (draw j) q
+    act_swap p q None (Some i) None None = refl
+    act_swap p q None None z w = refl
 
     chosen_swap : (p q : ℕ) → chosen ps q (chosen ps p ps) ≡ chosen ps p (chosen ps q ps)
     chosen_swap p q = act_swap q p (leaver n draw ps q) (mover n draw ps q) (leaver n draw ps p) (mover n draw ps p)
@@ -157,17 +156,17 @@ module _ (m n : ℕ) (draw : ℕ → ℕ) where
     same_left : (x y : Place) → y ≡ x → Left x y
     same_left x y e = subst (Left x) (sym e) (left_refl x)
 
-    cancel_left : (qs : List Place) (b : ℕ) (r : Pick) (j : ℕ) → Left (place_at qs j) (place_at (cancel_by r qs b) j)
-    cancel_left qs b (At i) j = through cancel Left left_refl (λ x. (refl, refl, omega arith)) qs (b * 8 + i) j
-    cancel_left qs b Nobody j = left_refl (place_at qs j)
+    cancel_left : (qs : List Place) (b : ℕ) (r : Option ℕ) (j : ℕ) → Left (place_at qs j) (place_at (cancel_by r qs b) j)
+    cancel_left qs b (Some i) j = through cancel Left left_refl (λ x. (refl, refl, omega arith)) qs (b * 8 + i) j
+    cancel_left qs b None j = left_refl (place_at qs j)
 
-    act_left : (x y : Pick) (c : ℕ) → Left (place_at ps (c * 8 + q)) (place_at (act x y p ps) (c * 8 + q))
-    act_left (At i) y c = same_left _ _ (other retain ps (draw i * 8 + p) (c * 8 + q) (λ e. d (omega arith)))
-    act_left Nobody (At i) c =
+    act_left : (x y : Option ℕ) (c : ℕ) → Left (place_at ps (c * 8 + q)) (place_at (act x y p ps) (c * 8 + q))
+    act_left (Some i) y c = same_left _ _ (other retain ps (draw i * 8 + p) (c * 8 + q) (λ e. d (omega arith)))
+    act_left None (Some i) c =
         let qs = changed deny ps (draw i * 8 + p) in
-        subst (λ x. Left x (place_at (act Nobody (At i) p ps) (c * 8 + q))) (other deny ps (draw i * 8 + p) (c * 8 + q) (λ e. d (omega arith)))
+        subst (λ x. Left x (place_at (act None (Some i) p ps) (c * 8 + q))) (other deny ps (draw i * 8 + p) (c * 8 + q) (λ e. d (omega arith)))
         (cancel_left qs (draw i) (risen m qs (draw i)) (c * 8 + q))
-    act_left Nobody Nobody c = left_refl (place_at ps (c * 8 + q))
+    act_left None None c = left_refl (place_at ps (c * 8 + q))
 
     step_left : (c : ℕ) → Left (place_at ps (c * 8 + q)) (place_at (keep_step m n draw ps p) (c * 8 + q))
     step_left c =

@@ -12,8 +12,9 @@ use lib.ListN.{length, get_or}
 use lib.Seq.{sets, length-sets, ext_get_or}
 use lib.Dec.{eqb}
 use Rattle.rules.specs.declared.Line.{Line}
-use Rattle.rules.specs.declared.Card.{Card}
-use Rattle.rules.specs.declared.Card.TheVariants.{Bid, Refused}
+use Rattle.std.specs.Prelude.{Result, Ok, Err}
+use Rattle.rules.specs.declared.Refusal.{Refusal}
+use Rattle.rules.specs.declared.Bid.{Bid}
 use Rattle.rules.specs.declared.Auction.{Auction}
 use Rattle.rules.specs.Card.{no_line, read_card}
 use Rattle.rules.specs.Parts.{cards, with_cards}
@@ -70,10 +71,10 @@ module _ (a : Auction) (b : ℕ) (ls : List Line) where
   unfolding with_card
   judged_filed c ks = judged_ext (with_card a b ls) a c ks refl refl refl refl
 
-  bid_filed : (x : Card) (ks : List Line) → bid_number (with_card a b ls) x ks ≡ bid_number a x ks
+  bid_filed : (x : Result Bid Refusal) (ks : List Line) → bid_number (with_card a b ls) x ks ≡ bid_number a x ks
   unfolding with_card
-  bid_filed (Bid c r) ks = rw (judged_filed c ks)
-  bid_filed (Refused n) ks = refl
+  bid_filed (Ok x) ks = rw (judged_filed x.bidder ks)
+  bid_filed (Err e) ks = refl
 
   -- nor the number of another card
   pub number_filed : (c : List ℕ) → card_number c (with_card a b ls) ≡ card_number c a

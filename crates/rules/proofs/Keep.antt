@@ -7,9 +7,8 @@ use native.Mathlib.Omega.{arith}
 use borrow.Author.Tests.{eqb-true, eqb-false, ltb-true, ltb-false}
 use lib.ListN.{length, length-set}
 use lib.Dec.{eqb, ltb}
+use Rattle.std.specs.Prelude.{Option, None, Some}
 use Rattle.rules.specs.declared.Lots.{Lots}
-use Rattle.rules.specs.declared.Pick.{Pick}
-use Rattle.rules.specs.declared.Pick.TheVariants.{At, Nobody}
 use Rattle.rules.specs.declared.Place.{Place}
 use Rattle.rules.specs.declared.Kept.{Kept}
 use Rattle.rules.specs.Count.{sum_up_to, first_up_to, never}
@@ -101,10 +100,10 @@ moved_cancel x h l = record {
 
 -- "Unkept withdrawals go first, .. then switches": the step by what is left
 module _ (m n : ℕ) (draw : ℕ → ℕ) (ps : List Place) (p i : ℕ) where
-  pub retain_first : leaver n draw ps p ≡ At i → keep_step m n draw ps p ≡ changed retain ps (draw i * 8 + p)
+  pub retain_first : leaver n draw ps p ≡ Some i → keep_step m n draw ps p ≡ changed retain ps (draw i * 8 + p)
   retain_first e = rw e
 
-  pub deny_next : leaver n draw ps p ≡ Nobody → mover n draw ps p ≡ At i → keep_step m n draw ps p ≡ deny_at m ps (draw i) p
+  pub deny_next : leaver n draw ps p ≡ None → mover n draw ps p ≡ Some i → keep_step m n draw ps p ≡ deny_at m ps (draw i) p
   deny_next e g = rw (e, g)
 
 -- what one step on product p does
@@ -221,15 +220,15 @@ module _ (m n : ℕ) (target : ℕ → ℕ) (tick : ℕ → Bool) (draw : ℕ �
             let y = sum_ge (λ q. moving_of (place_at ps (b * 8 + q))) m p lp in
             sum_pos (λ q. rise_of (place_at (changed deny ps (b * 8 + p)) (b * 8 + q))) m (omega (arith, K.owed b hb))
 
-        deny_by : (r : Pick) → risen m (changed deny ps (b * 8 + p)) b ≡ r → Stepped m n p ps (cancel_by r (changed deny ps (b * 8 + p)) b)
-        deny_by (At q) e =
+        deny_by : (r : Option ℕ) → risen m (changed deny ps (b * 8 + p)) b ≡ r → Stepped m n p ps (cancel_by r (changed deny ps (b * 8 + p)) b)
+        deny_by (Some q) e =
             let f = best_found (λ p'. ltb 0 (rise_of (place_at (changed deny ps (b * 8 + p)) (b * 8 + p')))) _ m q e in
             let l = f.0 in
             let s = length-set ps (b * 8 + p) (deny (place_at ps (b * 8 + p))) in
             deny_stepped m n hm ps b p hb lp inside h q l (omega (arith, K.long)) (ltb-true _ _ f.1)
             (each deny ps (b * 8 + p) inside (λ x y. rise_of x ≤ going_of x → rise_of y ≤ going_of y) (λ l g. g) (λ g. g) (b * 8 + q)
             (K.rises (b * 8 + q)))
-        deny_by Nobody e =
+        deny_by None e =
             let s = some_rise in
             let f = best_none (λ p'. ltb 0 (rise_of (place_at (changed deny ps (b * 8 + p)) (b * 8 + p')))) _ m e s.0 s.1 in
             let y = ltb-false 0 (rise_of (place_at (changed deny ps (b * 8 + p)) (b * 8 + s.0))) f in
@@ -239,17 +238,17 @@ module _ (m n : ℕ) (target : ℕ → ℕ) (tick : ℕ → Bool) (draw : ℕ �
         denied = deny_by (risen m (changed deny ps (b * 8 + p)) b) refl
 
       -- what is kept, whichever is left
-      step_by : (q r : Pick) → leaver n draw ps p ≡ q → mover n draw ps p ≡ r
+      step_by : (q r : Option ℕ) → leaver n draw ps p ≡ q → mover n draw ps p ≡ r
           → (can_keep n draw ps p ≡ true) × Stepped m n p ps (keep_step m n draw ps p)
-      step_by (At i) r e g =
+      step_by (Some i) r e g =
           let f = best_found (λ i. ltb 0 (leaving_of (place_at ps (draw i * 8 + p)))) _ n i e in
           let l = range i f.0 in
           let s = retain_stepped m n hm ps (draw i) p l lp (omega (arith, K.long)) (ltb-true _ _ f.1) in
           (rw e, rw (retain_first m n draw ps p i e) s)
-      step_by Nobody (At i) e g =
+      step_by None (Some i) e g =
           let f = best_found (λ i. ltb 0 (moving_of (place_at ps (draw i * 8 + p)))) never n i g in
           (rw (e, g), rw (deny_next m n draw ps p i e g) (denied (draw i) (range i f.0) (ltb-true _ _ f.1)))
-      step_by Nobody Nobody e g =
+      step_by None None e g =
           let s = some_left p lp tp sh in
           let r = reach s.0 s.1 in
           let x = best_none (λ i. ltb 0 (leaving_of (place_at ps (draw i * 8 + p)))) _ n e r.0 r.1 in
@@ -320,10 +319,10 @@ module _ (m n : ℕ) (target : ℕ → ℕ) (tick : ℕ → Bool) (draw : ℕ �
       → Ended m n target tick ps c (keep_loop m n target tick draw f ps c)
 
   loop_by : (f : ℕ) → Ends f → (ps : List Place) (c : ℕ) → Keepable m n target tick ps → every left_of ps n ≤ suc f
-      → (q : Pick) → first_up_to (short n target tick ps) m ≡ q
+      → (q : Option ℕ) → first_up_to (short n target tick ps) m ≡ q
       → Ended m n target tick ps c (while_short q
       (λ p. cond (can_keep n draw ps p) (keep_loop m n target tick draw f (keep_step m n draw ps p) (c + 1)) (kept ps c)) (kept ps c))
-  loop_by f go ps c K h (At p) e =
+  loop_by f go ps c K h (Some p) e =
       let g = best_found (short n target tick ps) never m p e in
       let tp = and_left (tick p) _ g.1 in
       let sh : column held_of ps p n < target p = below_true (column held_of ps p n) (target p) (and_right (tick p) _ g.1) in
@@ -336,7 +335,7 @@ module _ (m n : ℕ) (target : ℕ → ℕ) (tick : ℕ → Bool) (draw : ℕ �
         none = r.none;
         counted = omega (arith, r.counted, kept_more ps (keep_step m n draw ps p) p g.0 tp S);
       }
-  loop_by f go ps c K h Nobody e = record {
+  loop_by f go ps c K h None e = record {
     keepable = K;
     moved = λ j. moved_refl (place_at ps j);
     owed = λ b. omega arith;

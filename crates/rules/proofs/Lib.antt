@@ -1,5 +1,8 @@
 pub mod Sums
 pub mod Lists
+pub mod Ranges
+pub mod Made
+pub mod Numbered
 pub mod Parts
 pub mod Fill
 pub mod Tests

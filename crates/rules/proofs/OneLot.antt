@@ -7,9 +7,8 @@ use Prim.Native.Nat.{ℕ, zero, suc, ◌+◌, ◌*◌, ◌≤◌, ◌<◌}
 use native.Mathlib.Omega.{arith}
 use borrow.Author.Tests.{lt-ltb, le-ltb, ltb-true}
 use lib.Dec.{ltb}
+use Rattle.std.specs.Prelude.{Option, None, Some}
 use Rattle.rules.specs.declared.Lots.{Lots}
-use Rattle.rules.specs.declared.Pick.{Pick}
-use Rattle.rules.specs.declared.Pick.TheVariants.{At, Nobody}
 use Rattle.rules.specs.declared.Place.{Place}
 use Rattle.rules.specs.Count.{pick_if, better, best_up_to}
 use Rattle.rules.specs.Lots.{lot, lots, count_of, one_lot, lot_at, total, first_used, last_used, lowest, highest, fewer, take_first, retain_at, outbid_lot, outbid_last}
@@ -61,12 +60,12 @@ single_retained l k S h x = rw (first_first k S h)
 
 -- what is chosen rests on the tests and on the order of those that pass them
 module _ (has had : ℕ → Bool) (less lesser : ℕ → ℕ → Bool) where
-  better_same : (q : Pick) (i : ℕ) → has i ≡ had i → ((j : ℕ) → q ≡ At j → has i ≡ true → less i j ≡ lesser i j)
+  better_same : (q : Option ℕ) (i : ℕ) → has i ≡ had i → ((j : ℕ) → q ≡ Some j → has i ≡ true → less i j ≡ lesser i j)
       → better has less q i ≡ better had lesser q i
-  better_same Nobody i e f = rw e
-  better_same (At j) i e f = by (has i) refl
+  better_same None i e f = rw e
+  better_same (Some j) i e f = by (has i) refl
     where
-      by : (t : Bool) → has i ≡ t → pick_if (has i && less i j) i (At j) ≡ pick_if (had i && lesser i j) i (At j)
+      by : (t : Bool) → has i ≡ t → pick_if (has i && less i j) i (Some j) ≡ pick_if (had i && lesser i j) i (Some j)
       by true g = rw (f j refl g, e)
       by false g = let h : had i ≡ false = sym e ∙ g in rw (g, h)
 

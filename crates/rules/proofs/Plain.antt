@@ -7,8 +7,7 @@ use Prim.Native.Nat.{ℕ, zero, suc, ◌+◌, ◌-◌, ◌≤◌, ◌<◌}
 use native.Mathlib.Omega.{arith}
 use borrow.Author.Tests.{eqb-true, eqb-false}
 use lib.Dec.{eqb}
-use Rattle.rules.specs.declared.Pick.{Pick}
-use Rattle.rules.specs.declared.Pick.TheVariants.{At, Nobody}
+use Rattle.std.specs.Prelude.{Option, None, Some}
 use Rattle.rules.specs.declared.Place.{Place}
 use Rattle.rules.specs.declared.Kept.{Kept}
 use Rattle.rules.specs.Count.{sum_up_to, first_up_to, never}
@@ -104,15 +103,15 @@ module _ (m n : ℕ) (target : ℕ → ℕ) (tick : ℕ → Bool) where
         own_loop zero ps c K = (0, none, omega arith)
         own_loop (suc f) ps c K = by (first_up_to (short n target tick ps) m) refl (own_loop f)
           where
-            by : (q : Pick) → first_up_to (short n target tick ps) m ≡ q
+            by : (q : Option ℕ) → first_up_to (short n target tick ps) m ≡ q
                 → ((qs : List Place) (c : ℕ) → Fine qs → Reached (kept qs c) (own f qs c))
                 → Reached (kept ps c)
                 (while_short q (λ p. cond (can_keep n draw ps p) (own f (keep_step m n draw ps p) (c + 1)) (kept ps c)) (kept ps c))
-            by (At p) e go =
+            by (Some p) e go =
                 let g = best_found (short n target tick ps) never m p e in
                 let r = go (keep_step m n draw ps p) (c + 1) (next ps K p g) in
                 rw (can ps K p g) (suc r.0, more p g r.1, omega (arith, r.2))
-            by Nobody e go = (0, none, omega arith)
+            by None e go = (0, none, omega arith)
 
         module _ (ps : List Place) (K : Keepable m n target tick ps) where
           pub own_run : Keeps ps (kept_all m n target tick draw ps).count (kept_all m n target tick draw ps).places

@@ -1,23 +1,12 @@
 -- "Where an answer is an enum, a definition gives this paper's number and values for each of the enum's cases." Assumes nothing.
-use Rattle.std.specs.Prelude.{◌≡◌, cond, List, [], ◌∷◌, ℕ, zero, suc, eqb}
-use Rattle.rules.specs.declared.Field.{Field}
-use Rattle.rules.specs.declared.Field.TheVariants as field
-use Rattle.rules.specs.declared.Card.{Card}
-use Rattle.rules.specs.declared.Card.TheVariants as card
-use Rattle.rules.specs.declared.Answer.{Answer}
-use Rattle.rules.specs.declared.Answer.TheVariants as answer
-use Rattle.rules.specs.declared.Count.{Count}
-use Rattle.rules.specs.declared.Count.TheVariants as count
+use Rattle.std.specs.Prelude.{◌≡◌, cond, List, [], ◌∷◌, ℕ, zero, suc, eqb, Option, None, Some, Result, Ok, Err}
+use Rattle.rules.specs.declared.Refusal.{Refusal}
+use Rattle.rules.specs.declared.Refusal.TheVariants as refusal
+use Rattle.rules.specs.declared.Bid.{Bid}
 use Rattle.rules.specs.declared.Calculation.{Calculation}
-use Rattle.rules.specs.declared.Calculation.TheVariants as calculation
 use Rattle.rules.specs.declared.Phase.{Phase}
 use Rattle.rules.specs.declared.Phase.TheVariants.{Issued, Open, Closed, Stopped}
 use Rattle.rules.specs.declared.Report.{Report}
-use Rattle.rules.specs.declared.Report.TheVariants as report
-use Rattle.rules.specs.declared.Award.{Award}
-use Rattle.rules.specs.declared.Award.TheVariants as award
-use Rattle.rules.specs.declared.Volume.{Volume}
-use Rattle.rules.specs.declared.Volume.TheVariants as volume
 
 -- what a call lent bytes leaves: its answer, and the bytes at the end
 pub record Outcome (A : Type 0) : Type 0 where
@@ -70,44 +59,105 @@ abbrev pub first_number : ℕ → ℕ → ℕ
 first_number zero next = next
 first_number (suc n) next = suc n
 
--- a call's number as its answer: 0 is done
+-- ---- "Each refusal has one number": document 01's numbers and document 02's
+
+abbrev pub number_of : Refusal → ℕ
+number_of refusal.StateLength = 1
+number_of refusal.NotStanding = 2
+number_of refusal.NotOpen = 3
+number_of refusal.CardLength = 4
+number_of refusal.Filling = 5
+number_of refusal.NoBidder = 6
+number_of refusal.OtherRound = 7
+number_of refusal.AboveCap = 8
+number_of refusal.Reduced = 9
+number_of refusal.AboveEligibility = 10
+number_of refusal.Withdrawn = 11
+number_of refusal.ExitPrice = 12
+number_of refusal.Priorities = 13
+number_of refusal.Draw = 14
+number_of refusal.Setting = 15
+number_of refusal.NotClosed = 16
+number_of refusal.NotIssued = 17
+number_of refusal.RoundOne = 18
+number_of refusal.Override = 19
+number_of refusal.Cutback = 20
+number_of refusal.Order = 23
+number_of refusal.ProductCount = 29
+number_of refusal.Field = 30
+number_of refusal.Suggestion = 31
+
+-- the refusal that has this number
+abbrev pub refusal_of : ℕ → Refusal
+refusal_of n =
+    cond (eqb n 1) refusal.StateLength
+    (cond (eqb n 2) refusal.NotStanding
+    (cond (eqb n 3) refusal.NotOpen
+    (cond (eqb n 4) refusal.CardLength
+    (cond (eqb n 5) refusal.Filling
+    (cond (eqb n 6) refusal.NoBidder
+    (cond (eqb n 7) refusal.OtherRound
+    (cond (eqb n 8) refusal.AboveCap
+    (cond (eqb n 9) refusal.Reduced
+    (cond (eqb n 10) refusal.AboveEligibility
+    (cond (eqb n 11) refusal.Withdrawn
+    (cond (eqb n 12) refusal.ExitPrice
+    (cond (eqb n 13) refusal.Priorities
+    (cond (eqb n 14) refusal.Draw
+    (cond (eqb n 15) refusal.Setting
+    (cond (eqb n 16) refusal.NotClosed
+    (cond (eqb n 17) refusal.NotIssued
+    (cond (eqb n 18) refusal.RoundOne
+    (cond (eqb n 19) refusal.Override
+    (cond (eqb n 20) refusal.Cutback
+    (cond (eqb n 23) refusal.Order
+    (cond (eqb n 29) refusal.ProductCount
+    (cond (eqb n 30) refusal.Field
+    refusal.Suggestion))))))))))))))))))))))
+
+-- the answer of open, file, cutback, return and write
+abbrev pub Answer : Type 0
+Answer = Result (Unit {0}) Refusal
+
+-- a call's number as its answer: 0 is what it gives, any other the refusal
+abbrev pub answer_or : {A : Type 0} → ℕ → A → Result A Refusal
+answer_or zero x = Ok x
+answer_or (suc n) x = Err (refusal_of (suc n))
+
 abbrev pub answer_from : ℕ → Answer
-answer_from zero = answer.Done
-answer_from (suc n) = answer.Refused (suc n)
+answer_from n = answer_or n tt
 
 -- the new bytes where nothing is refused; "Every refusal returns its number only and writes nothing."
 abbrev pub unless_refused : ℕ → List ℕ → List ℕ → Outcome Answer
 unless_refused n new old = outcome (answer_from n) (cond (eqb n 0) new old)
 
+-- what an answer says: the number of its refusal, or 0 and its values
+abbrev pub says : {A : Type 0} → (A → List ℕ) → Result A Refusal → Said
+says values (Ok x) = said 0 (values x)
+says values (Err e) = said (number_of e) []
+
 abbrev pub answer_of : Answer → Said
-answer_of answer.Done = said 0 []
-answer_of (answer.Refused n) = said n []
+answer_of = says (λ x. [])
 
 -- a field that ends past the card is a card of the wrong length, number 4
-abbrev pub field_said : Field → Said
-field_said (field.Value v) = said 0 (v ∷ [])
-field_said field.Past = said 4 []
+abbrev pub field_said : Option ℕ → Said
+field_said (Some v) = said 0 (v ∷ [])
+field_said None = said 4 []
 
-abbrev pub card_said : Card → Said
-card_said (card.Bid b r) = said 0 (b ∷ r ∷ [])
-card_said (card.Refused n) = said n []
+abbrev pub card_said : Result Bid Refusal → Said
+card_said = says (λ x. x.bidder ∷ x.round ∷ [])
 
-abbrev pub count_said : Count → Said
-count_said (count.ToFile n) = said 0 (n ∷ [])
-count_said (count.Refused n) = said n []
+abbrev pub count_said : Result ℕ Refusal → Said
+count_said = says (λ n. n ∷ [])
 
-abbrev pub calculation_said : Calculation → Said
-calculation_said (calculation.Done k o) = said 0 (k ∷ o ∷ [])
-calculation_said (calculation.Refused n) = said n []
+abbrev pub calculation_said : Result Calculation Refusal → Said
+calculation_said = says (λ c. c.kept ∷ c.outbid ∷ [])
 
-abbrev pub report_said : Report → Said
-report_said (report.Given f ph r) = said 0 (f.0 ∷ phase_number ph ∷ r.low ∷ r.high ∷ [])
-report_said (report.Refused n) = said n []
+abbrev pub report_said : Result Report Refusal → Said
+report_said = says (λ r. r.free.0 ∷ phase_number r.phase ∷ r.range.low ∷ r.range.high ∷ [])
 
-abbrev pub award_said : Award → Said
-award_said award.Given = said 0 []
-award_said (award.Refused n) = said n []
+abbrev pub award_said : Answer → Said
+award_said = answer_of
 
-abbrev pub volume_said : Volume → Said
-volume_said (volume.Suggested v) = said 0 (v ∷ [])
-volume_said (volume.Refused n) = said n []
+abbrev pub volume_said : Result ℕ Refusal → Said
+volume_said = count_said

@@ -1,29 +1,23 @@
 -- "Numbers answered": for each call one total definition of its answer and, where it is lent bytes to write, of all of them at the
 -- end. What a call is lent only to read (a card, a draw, the state of count, report and result) stays as it is. Assumes nothing.
-use Rattle.std.specs.Prelude.{◌&&◌, cond, List, ℕ, ◌*◌, ◌-◌, length, replicate, ltb, eqb}
+use Rattle.std.specs.Prelude.{◌&&◌, cond, List, ℕ, ◌*◌, ◌-◌, length, replicate, ltb, eqb, Result, Ok, Err}
 use Rattle.std.proofs.lemmas.List.Edits.{sets}
 use Rattle.std.specs.Int.Count.{ones}
+use Rattle.rules.specs.Price.{Override}
 use Rattle.rules.specs.declared.Tranches.{Tranches}
 use Rattle.rules.specs.declared.Line.{Line}
-use Rattle.rules.specs.declared.Card.{Card}
-use Rattle.rules.specs.declared.Card.TheVariants as card
+use Rattle.rules.specs.declared.Refusal.{Refusal}
+use Rattle.rules.specs.declared.Bid.{Bid}
 use Rattle.rules.specs.declared.CardRead.{CardRead}
 use Rattle.rules.specs.declared.Settings.{Settings}
 use Rattle.rules.specs.declared.Setup.{Setup}
 use Rattle.rules.specs.declared.Auction.{Auction}
-use Rattle.rules.specs.declared.Chosen.{Chosen}
 use Rattle.rules.specs.declared.Calculated.{Calculated}
-use Rattle.rules.specs.declared.Answer.{Answer}
-use Rattle.rules.specs.declared.Count.{Count}
-use Rattle.rules.specs.declared.Count.TheVariants as count
 use Rattle.rules.specs.declared.Calculation.{Calculation}
-use Rattle.rules.specs.declared.Calculation.TheVariants as calculation
 use Rattle.rules.specs.declared.Reported.{Reported}
 use Rattle.rules.specs.declared.Awarded.{Awarded}
-use Rattle.rules.specs.declared.Volume.{Volume}
-use Rattle.rules.specs.declared.Volume.TheVariants as volume
 use Rattle.rules.specs.Count.{list_of}
-use Rattle.rules.specs.Answers.{Outcome, outcome, first_number, unless_refused, bids_open, closed}
+use Rattle.rules.specs.Answers.{Outcome, outcome, first_number, number_of, refusal_of, Answer, answer_or, unless_refused, bids_open, closed}
 use Rattle.rules.specs.Parts.{lane, seat, cards, no_cards, auction, with_cards}
 use Rattle.rules.specs.Settings.{settings_fit, setup_of, target_of, cap_of, start_of, initial_of}
 use Rattle.rules.specs.Bits.{set_in}
@@ -62,9 +56,9 @@ of_state s when_issued says =
 -- ---- file: 1, 2, 3, 4, 5, 6 .. 13
 
 -- 6 "no such bidder"; 7 "other round"; 8 to 13; 4 and 5 are the card's own
-abbrev pub bid_number : Auction → Card → List Line → ℕ
-bid_number a (card.Refused n) ls = n
-bid_number a (card.Bid b r) ls = cond (ltb b a.terms.bidders) (cond (eqb r a.round) (judged a b ls) 7) 6
+abbrev pub bid_number : Auction → Result Bid Refusal → List Line → ℕ
+bid_number a (Err e) ls = number_of e
+bid_number a (Ok x) ls = cond (ltb x.bidder a.terms.bidders) (cond (eqb x.round a.round) (judged a x.bidder ls) 7) 6
 
 -- 3 "bids not open"
 abbrev pub card_number : List ℕ → Auction → ℕ
@@ -78,9 +72,9 @@ file_number s c = of_state s 3 (card_number c)
 unfoldable pub with_card : Auction → ℕ → List Line → Auction
 with_card a b ls = with_cards a (cards (set_in a.cards.filed b 1) (sets a.cards.lines (b * 8) ls))
 
-abbrev pub bidder_on : Card → ℕ
-bidder_on (card.Bid b r) = b
-bidder_on (card.Refused n) = 0
+abbrev pub bidder_on : Result Bid Refusal → ℕ
+bidder_on (Ok x) = x.bidder
+bidder_on (Err e) = 0
 
 abbrev pub after_card : List ℕ → Auction → Auction
 after_card c a =
@@ -101,24 +95,24 @@ count_number s = of_state s 3 open_number_of
 abbrev pub to_file : Auction → ℕ
 to_file a = a.terms.bidders - ones a.cards.filed
 
-unfoldable pub count_call : List ℕ → Count
-count_call s = cond (eqb (count_number s) 0) (count.ToFile (to_file (loaded s))) (count.Refused (count_number s))
+unfoldable pub count_call : List ℕ → Result ℕ Refusal
+count_call s = answer_or (count_number s) (to_file (loaded s))
 
 -- ---- calculate: 1, 2, 3, 14 "draw order wrong", 19 "an override outside 1 to 1,000, after 14"
 
-abbrev pub round_number : List ℕ → List Chosen → Auction → ℕ
+abbrev pub round_number : List ℕ → List Override → Auction → ℕ
 round_number draw os a = cond (is_open a) (cond (draw_fits a.terms.bidders draw) (cond (overrides_fit os) 0 19) 14) 3
 
-abbrev pub calculate_number : List ℕ → List ℕ → List Chosen → ℕ
+abbrev pub calculate_number : List ℕ → List ℕ → List Override → ℕ
 calculate_number s draw os = of_state s 3 (round_number draw os)
 
-abbrev pub calculation_done : Calculated → Outcome Calculation
-calculation_done c = outcome (calculation.Done c.kept c.outbid) (stored c.auction)
+abbrev pub calculation_done : Calculated → Outcome (Result Calculation Refusal)
+calculation_done c = outcome (Ok (record { kept = c.kept; outbid = c.outbid })) (stored c.auction)
 
-abbrev pub calculated_unless : ℕ → Calculated → List ℕ → Outcome Calculation
-calculated_unless n c s = cond (eqb n 0) (calculation_done c) (outcome (calculation.Refused n) s)
+abbrev pub calculated_unless : ℕ → Calculated → List ℕ → Outcome (Result Calculation Refusal)
+calculated_unless n c s = cond (eqb n 0) (calculation_done c) (outcome (Err (refusal_of n)) s)
 
-unfoldable pub calculate_call : List ℕ → List ℕ → List Chosen → Outcome Calculation
+unfoldable pub calculate_call : List ℕ → List ℕ → List Override → Outcome (Result Calculation Refusal)
 calculate_call s draw os = calculated_unless (calculate_number s draw os) (calculated (loaded s) draw os) s
 
 -- ---- calculate with the plain engine: 1, 2, 3, 14, 19, as of calculate, then 23 "the product order isn't each product once"
@@ -126,10 +120,10 @@ calculate_call s draw os = calculated_unless (calculate_number s draw os) (calcu
 abbrev pub order_number : List ℕ → Auction → ℕ
 order_number order a = cond (order_fits a.terms.products order) 0 23
 
-abbrev pub plain_number : List ℕ → List ℕ → List Chosen → List ℕ → ℕ
+abbrev pub plain_number : List ℕ → List ℕ → List Override → List ℕ → ℕ
 plain_number s draw os order = first_number (calculate_number s draw os) (order_number order (loaded s))
 
-unfoldable pub plain_call : List ℕ → List ℕ → List Chosen → List ℕ → Outcome Calculation
+unfoldable pub plain_call : List ℕ → List ℕ → List Override → List ℕ → Outcome (Result Calculation Refusal)
 plain_call s draw os order = calculated_unless (plain_number s draw os order) (calculated_plain (loaded s) draw os order) s
 
 -- ---- cutback: 1, 2, 3, 20
@@ -152,7 +146,7 @@ abbrev pub report_number : List ℕ → ℕ → ℕ
 report_number s b = of_state s 3 (bidder_number b)
 
 unfoldable pub report_call : List ℕ → ℕ → Reported
-report_call s b = cond (eqb (report_number s b) 0) (report_on (loaded s) b) (report_refused (report_number s b))
+report_call s b = cond (eqb (report_number s b) 0) (report_on (loaded s) b) (report_refused (refusal_of (report_number s b)))
 
 -- ---- result: 1, 2, 16 "auction not closed"
 
@@ -163,7 +157,7 @@ abbrev pub result_number : List ℕ → ℕ
 result_number s = of_state s 16 closed_number
 
 unfoldable pub result_call : List ℕ → Awarded
-result_call s = cond (eqb (result_number s) 0) (result_of (loaded s)) (result_refused (result_number s))
+result_call s = cond (eqb (result_number s) 0) (result_of (loaded s)) (result_refused (refusal_of (result_number s)))
 
 -- ---- return: 1; "A return accepts any state of the right length and leaves it all zero, as first issued."
 
@@ -181,6 +175,5 @@ read_call s n = read_card s n
 abbrev pub write_call : List ℕ → ℕ → ℕ → ℕ → List Line → Outcome Answer
 write_call room n bidder round ls = write_card room n bidder round ls
 
-unfoldable pub suggested_call : ℕ → ℕ → Volume
-suggested_call bid ratio =
-    cond (eqb (suggested_number bid ratio) 0) (volume.Suggested (suggested_volume bid ratio)) (volume.Refused (suggested_number bid ratio))
+unfoldable pub suggested_call : ℕ → ℕ → Result ℕ Refusal
+suggested_call bid ratio = answer_or (suggested_number bid ratio) (suggested_volume bid ratio)

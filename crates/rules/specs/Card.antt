@@ -1,14 +1,11 @@
 -- "The bid card." Assumes nothing.
-use Rattle.std.specs.Prelude.{Bool, ◌&&◌, cond, List, ℕ, zero, suc, ◌+◌, ◌-◌, ◌*◌, ◌/◌, length, get_or, set, replicate, leb, ltb, eqb}
+use Rattle.std.specs.Prelude.{Bool, ◌&&◌, cond, List, ℕ, zero, suc, ◌+◌, ◌-◌, ◌*◌, ◌/◌, length, get_or, set, replicate, leb, ltb, eqb, Option, None, Some, Ok, Err}
 use Rattle.rules.specs.declared.Lot.{Lot}
 use Rattle.rules.specs.declared.Lots.{Lots}
 use Rattle.rules.specs.declared.Line.{Line}
-use Rattle.rules.specs.declared.Field.{Field}
-use Rattle.rules.specs.declared.Field.TheVariants.{Value, Past}
-use Rattle.rules.specs.declared.Card.TheVariants.{Bid, Refused}
+use Rattle.rules.specs.declared.Bid.{Bid}
 use Rattle.rules.specs.declared.CardRead.{CardRead}
-use Rattle.rules.specs.declared.Answer.{Answer}
-use Rattle.rules.specs.Answers.{Outcome, unless_refused}
+use Rattle.rules.specs.Answers.{Outcome, Answer, refusal_of, unless_refused}
 use Rattle.rules.specs.Count.{all_up_to}
 use Rattle.rules.specs.Units.{tranches}
 use Rattle.rules.specs.Lots.{lot, lots, no_lots, count_of, lots_zero}
@@ -44,8 +41,8 @@ count_fits n = leb 1 n && leb n 8
 -- ---- reading
 
 -- a field of w bits, or that it ends past the card
-abbrev pub field_of : List ℕ → ℕ → ℕ → Field
-field_of s at w = cond (leb (at + w) (8 * length s)) (Value (field_at s at w)) Past
+abbrev pub field_of : List ℕ → ℕ → ℕ → Option ℕ
+field_of s at w = cond (leb (at + w) (8 * length s)) (Some (field_at s at w)) None
 
 abbrev pub lot_from : List ℕ → ℕ → Lot
 lot_from s at = lot (field_at s at 8) (field_at s (at + 8) 17)
@@ -67,10 +64,14 @@ filled s n = eqb (field_at s (line_bit n) (8 * card_length n - line_bit n)) 0
 
 -- a refused read answers its number and an all-zero array
 abbrev pub read_refused : ℕ → CardRead
-read_refused k = record { card = Refused k; lines = replicate 8 no_line }
+read_refused k = record { card = Err (refusal_of k); lines = replicate 8 no_line }
+
+-- bidder, round
+abbrev pub bid_by : ℕ → ℕ → Bid
+bid_by b r = record { bidder = b; round = r }
 
 abbrev pub bid_of : List ℕ → ℕ → CardRead
-bid_of s n = record { card = Bid (field_at s 0 5) (field_at s 5 12); lines = read_lines s n }
+bid_of s n = record { card = Ok (bid_by (field_at s 0 5) (field_at s 5 12)); lines = read_lines s n }
 
 -- "A card read is either a bid or a numbered refusal": 29, 4, 5
 unfoldable pub read_card : List ℕ → ℕ → CardRead

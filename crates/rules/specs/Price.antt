@@ -1,10 +1,9 @@
 -- "Next price of a product above target", and document 02, request 1: "A price override for the manager." Assumes nothing.
-use Rattle.std.specs.Prelude.{Bool, true, false, ◌&&◌, cond, ℕ, zero, suc, ◌+◌, ◌*◌, ◌-◌, ◌/◌, max, leb, ℤ}
+use Rattle.std.specs.Prelude.{Bool, true, false, ◌&&◌, cond, ℕ, zero, suc, ◌+◌, ◌*◌, ◌-◌, ◌/◌, max, leb, ℤ, Option, None, Some, is_some}
+use Rattle.rules.specs.declared.BasisPoints.{BasisPoints}
 use Rattle.rules.specs.declared.Price.{Price}
 use Rattle.rules.specs.declared.Decrements.{Decrements}
 use Rattle.rules.specs.declared.Limits.{Limits}
-use Rattle.rules.specs.declared.Override.{Override}
-use Rattle.rules.specs.declared.Override.TheVariants as override
 use Rattle.rules.specs.Units.{unit_of, amount_of, price_of}
 use Rattle.rules.specs.Settings.{percent_of, decrement_of}
 use Rattle.rules.specs.Allowed.{limits, allows}
@@ -32,23 +31,26 @@ price_fallen x decrement = price_of (unit_of x) (fallen (amount_of x) decrement)
 
 -- ---- the manager's decrement
 
+-- "an optional decrement"
+abbrev pub Override : Type 0
+Override = Option BasisPoints
+
 -- none given is not 0
 abbrev pub is_given : Override → Bool
-is_given override.None = false
-is_given (override.Points x) = true
+is_given o = is_some o
 
 -- "an optional decrement of 1 to 1,000 basis points"
 abbrev pub override_limits : Limits
 override_limits = limits 1 1000
 
 abbrev pub override_fits : Override → Bool
-override_fits override.None = true
-override_fits (override.Points x) = allows override_limits x.0
+override_fits None = true
+override_fits (Some x) = allows override_limits x.0
 
 -- the one given, or the table's
 abbrev pub decrement_by : Override → ℕ → ℕ
-decrement_by override.None d = d
-decrement_by (override.Points x) d = x.0
+decrement_by None d = d
+decrement_by (Some x) d = x.0
 
 -- "the price with whether it was overridden"
 pub record Worked : Type 0 where

@@ -1,14 +1,14 @@
 -- "Report and result." Assumes nothing.
-use Rattle.std.specs.Prelude.{false, cond, ℕ, zero, suc, ◌+◌, ◌*◌, ◌-◌, ◌/◌, max, replicate, leb, ltb, eqb}
+use Rattle.std.specs.Prelude.{false, cond, ℕ, zero, suc, ◌+◌, ◌*◌, ◌-◌, ◌/◌, max, replicate, leb, ltb, eqb, Ok, Err}
 use Rattle.rules.specs.declared.GoingPrice.{GoingPrice}
 use Rattle.rules.specs.declared.Range.{Range}
 use Rattle.rules.specs.declared.Lot.{Lot}
 use Rattle.rules.specs.declared.Lots.{Lots}
 use Rattle.rules.specs.declared.Record.{Record}
 use Rattle.rules.specs.declared.Auction.{Auction}
-use Rattle.rules.specs.declared.Report.TheVariants as report
+use Rattle.rules.specs.declared.Refusal.{Refusal}
+use Rattle.rules.specs.declared.Report.{Report}
 use Rattle.rules.specs.declared.Reported.{Reported}
-use Rattle.rules.specs.declared.Award.TheVariants as award
 use Rattle.rules.specs.declared.Awarded.{Awarded}
 use Rattle.rules.specs.Count.{list_of}
 use Rattle.rules.specs.Units.{tranches, quote, going_price}
@@ -35,13 +35,13 @@ going_on a p = going_price a.terms.unit (price_at a p) (ltb 0 (mark_at a p))
 -- "A report gives a bidder its own records and f, all going prices, the phase, and a range for total excess supply"
 unfoldable pub report_on : Auction → ℕ → Reported
 report_on a b = record {
-  report = report.Given (tranches (free_of a b)) (phase_of a.phase) (range_of (excess a));
+  report = Ok (record { free = tranches (free_of a b); phase = phase_of a.phase; range = range_of (excess a) });
   records = list_of (record_of a b) 8;
   prices = list_of (going_on a) 8;
 }
 
-abbrev pub report_refused : ℕ → Reported
-report_refused n = record { report = report.Refused n; records = replicate 8 nothing; prices = replicate 8 (going_price 0 0 false) }
+abbrev pub report_refused : Refusal → Reported
+report_refused e = record { report = Err e; records = replicate 8 nothing; prices = replicate 8 (going_price 0 0 false) }
 
 abbrev pub price_if : ℕ → ℕ → ℕ
 price_if n x = cond (ltb 0 n) x 0
@@ -68,10 +68,10 @@ paid_on a p = cond (eqb (highest_up_to a p a.terms.bidders) 0) (price_at a p) (h
 -- "The result gives g + d + r for each bidder and product, and one price a product"
 unfoldable pub result_of : Auction → Awarded
 result_of a = record {
-  award = award.Given;
+  award = Ok tt;
   tranches = list_of (λ k. tranches (held_in (record_at a.records k))) 256;
   prices = list_of (λ p. quote a.terms.unit (paid_on a p)) 8;
 }
 
-abbrev pub result_refused : ℕ → Awarded
-result_refused n = record { award = award.Refused n; tranches = replicate 256 (tranches 0); prices = replicate 8 (quote 0 0) }
+abbrev pub result_refused : Refusal → Awarded
+result_refused e = record { award = Err e; tranches = replicate 256 (tranches 0); prices = replicate 8 (quote 0 0) }

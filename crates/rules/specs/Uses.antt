@@ -1,8 +1,8 @@
 -- The calls as values, and what they leave of a state one after the other: "Its calls alone change the state's bytes." Assumes nothing.
 use Rattle.std.specs.Prelude.{◌≡◌, ◌⊎◌, List, [], ◌∷◌, ℕ, length}
+use Rattle.rules.specs.Price.{Override}
 use Rattle.rules.specs.declared.Tranches.{Tranches}
 use Rattle.rules.specs.declared.Line.{Line}
-use Rattle.rules.specs.declared.Chosen.{Chosen}
 use Rattle.rules.specs.declared.Settings.{Settings}
 use Rattle.rules.specs.Calls.{open_call, file_call, calculate_call, plain_call, cutback_call, return_call}
 
@@ -11,8 +11,8 @@ pub data Call : Type 0 where
   opens : Settings → Call
   files : List ℕ → Call
   counts : Call
-  calculates : List ℕ → List Chosen → Call
-  calculates_plain : List ℕ → List Chosen → List ℕ → Call
+  calculates : List ℕ → List Override → Call
+  calculates_plain : List ℕ → List Override → List ℕ → Call
   cuts : List Tranches → List Tranches → Call
   reports : ℕ → Call
   results : Call

@@ -5,13 +5,13 @@
 ghost use Rattle.std.specs.Prelude.{◌≡◌, ◌+◌, ◌-◌, ◌≤◌, ◌<◌, min};
 ghost use Rattle.rules.specs.Units.{kwh, mw_day, unit_number, unit_of, amount_of, price_of};
 ghost use Rattle.rules.specs.Allowed.{limits, allows};
-ghost use Rattle.rules.specs.Answers.{phase_of};
+ghost use Rattle.rules.specs.Answers.{phase_of, number_of};
 ghost use Rattle.rules.specs.Lots.{no_lot, no_lots, count_of, one_lot, lot_at, put, total, first_used, last_used, lowest, highest, leads, follows, exit_fits, exits_fit, lot_zero, lots_zero, fewer, take_first, retain_at, outbid_lot, outbid_last};
 ghost use Rattle.rules.specs.Card.{no_line, line_zero};
 ghost use Rattle.rules.specs.Held.{nothing, going_in, denied_in, retained_in, held_in, kept_in, retained, denied, cancelled, deemed, switch_outbid, withdrawal_outbid, set_to};
 ghost use Rattle.rules.specs.Legal.{record_zero};
 ghost use Rattle.rules.specs.Accept.{leaving_of, moving_of, rise_of, retain, deny, cancel, deem, outbid_switch, outbid_withdrawal};
-ghost use Rattle.rules.specs.Price.{fallen, price_fallen, is_given, override_limits, override_fits, decrement_by};
+ghost use Rattle.rules.specs.Price.{fallen, price_fallen, override_limits, override_fits};
 ghost use Rattle.rules.specs.Report.{range_of};
 
 // ---- Counters kept apart
@@ -138,56 +138,24 @@ pub struct Quote {
 
 // ---- Document 02, request 1: "an optional decrement", the manager's for one product in one calculation
 
-#[derive(Clone, Copy)]
-pub enum Override {
-    None,
-    Points(BasisPoints),
-}
-
-impl Override {
-    pub fn is_given(self) -> bool
-        ensures { result ≡ is_given self }
-    {
-        match self {
-            Override::None => false,
-            Override::Points(_) => true,
-        }
-    }
-
-    // "1 to 1,000 basis points".
-    pub fn limits() -> Limits
-        ensures { result ≡ override_limits }
-    {
-        Limits {
-            least: 1,
-            most: 1000,
-        }
-    }
-
-    pub fn fits(self) -> bool
-        ensures { result ≡ override_fits self }
-    {
-        match self {
-            Override::None => true,
-            Override::Points(by) => Override::limits().holds(by.0 as u32),
-        }
-    }
-
-    // The manager's decrement, or the table's where none is given.
-    pub fn or(self, table: BasisPoints) -> BasisPoints
-        ensures { result.0 ≡ decrement_by self table.0 }
-    {
-        match self {
-            Override::None => table,
-            Override::Points(by) => by,
-        }
+// "1 to 1,000 basis points".
+pub fn override_limits() -> Limits
+    ensures { result ≡ override_limits }
+{
+    Limits {
+        least: 1,
+        most: 1000,
     }
 }
 
-// An array holds an override inside this struct.
-#[derive(Clone, Copy)]
-pub struct Chosen {
-    pub decrement: Override,
+// None is no override, and fits.
+pub fn override_fits(given: Option<BasisPoints>) -> bool
+    ensures { result ≡ override_fits given }
+{
+    match given {
+        None => true,
+        Some(by) => override_limits().holds(by.0 as u32),
+    }
 }
 
 // A price, "with whether it was overridden".
@@ -547,24 +515,17 @@ impl Line {
     }
 }
 
-// One field of a card, or that it ends past the card.
+// Whose bid a card is, and of which round.
 #[derive(Clone, Copy)]
-pub enum Field {
-    Value(u32),
-    Past,
+pub struct Bid {
+    pub bidder: u8,
+    pub round: u16,
 }
 
-// A card read is either a bid or a numbered refusal.
-#[derive(Clone, Copy)]
-pub enum Card {
-    Bid { bidder: u8, round: u16 },
-    Refused(u8),
-}
-
-// The card's answer, with the bid's lines beside it.
+// "A card read is either a bid or a numbered refusal", with the bid's lines beside it.
 #[derive(Clone, Copy)]
 pub struct CardRead {
-    pub card: Card,
+    pub card: Result<Bid, Refusal>,
     pub lines: [Line; 8],
 }
 
@@ -799,13 +760,6 @@ impl Phase {
 
 // ---- Calculating
 
-// What a search finds.
-#[derive(Clone, Copy)]
-pub enum Pick {
-    At(usize),
-    Nobody,
-}
-
 // One bidder on one product while a round is calculated: its record, and of its bid the withdrawals not kept,
 // the switches not denied and the increases not cancelled.
 #[derive(Clone, Copy)]
@@ -905,25 +859,99 @@ pub struct Calculated {
     pub outbid: u32,
 }
 
-// ---- Answers: each call's own, or the number of its refusal
+// ---- Answers: each call's own, or why it is refused
 
-// Of open, file, cutback, return and write.
-#[derive(Clone, Copy)]
-pub enum Answer {
-    Done,
-    Refused(u8),
+// "Numbers answered": why a call is refused. Each has one number.
+#[derive(Clone, Copy, PartialEq, Eq)]
+pub enum Refusal {
+    // 1: "state length wrong"
+    StateLength,
+    // 2: "state neither issued nor standing"
+    NotStanding,
+    // 3: "bids not open (for report: issued)"
+    NotOpen,
+    // 4: "card length, or the room lent for a card, wrong"
+    CardLength,
+    // 5: "filling bits not zero"
+    Filling,
+    // 6: "no such bidder"
+    NoBidder,
+    // 7: "other round"
+    OtherRound,
+    // 8: "some b + d + r above the product cap"
+    AboveCap,
+    // 9: "a reduction on a product that didn't tick"
+    Reduced,
+    // 10: "sum of b above sum of g + f"
+    AboveEligibility,
+    // 11: "withdrawn above R on a product, or total not w"
+    Withdrawn,
+    // 12: "withdrawn > 0 and exit not in p < x <= q; or withdrawn = 0 and exit not 0"
+    ExitPrice,
+    // 13: "s > 0 and increased products not numbered 1 to k once each, others 0; or s = 0 and a priority not 0"
+    Priorities,
+    // 14: "draw order wrong"
+    Draw,
+    // 15: "a setting outside the above"
+    Setting,
+    // 16: "auction not closed"
+    NotClosed,
+    // 17: "a state byte isn't zero"
+    NotIssued,
+    // 18: "open in round 1"
+    RoundOne,
+    // 19: "an override outside 1 to 1,000"
+    Override,
+    // 20: "any condition not met"
+    Cutback,
+    // 23: "the product order isn't each product once"
+    Order,
+    // 29: "product count not 1 to 8"
+    ProductCount,
+    // 30: "a field too large for its bits, or not 0 past the count"
+    Field,
+    // 31: of a suggested volume
+    Suggestion,
 }
 
-#[derive(Clone, Copy)]
-pub enum Count {
-    ToFile(u32),
-    Refused(u8),
+impl Refusal {
+    pub fn number(self) -> u8
+        ensures { (result ≡ number_of self) × (0 < result) }
+    {
+        match self {
+            Refusal::StateLength => 1,
+            Refusal::NotStanding => 2,
+            Refusal::NotOpen => 3,
+            Refusal::CardLength => 4,
+            Refusal::Filling => 5,
+            Refusal::NoBidder => 6,
+            Refusal::OtherRound => 7,
+            Refusal::AboveCap => 8,
+            Refusal::Reduced => 9,
+            Refusal::AboveEligibility => 10,
+            Refusal::Withdrawn => 11,
+            Refusal::ExitPrice => 12,
+            Refusal::Priorities => 13,
+            Refusal::Draw => 14,
+            Refusal::Setting => 15,
+            Refusal::NotClosed => 16,
+            Refusal::NotIssued => 17,
+            Refusal::RoundOne => 18,
+            Refusal::Override => 19,
+            Refusal::Cutback => 20,
+            Refusal::Order => 23,
+            Refusal::ProductCount => 29,
+            Refusal::Field => 30,
+            Refusal::Suggestion => 31,
+        }
+    }
 }
 
+// "The calculation answers the count of tranches kept in step 2 and outbid in step 4."
 #[derive(Clone, Copy)]
-pub enum Calculation {
-    Done { kept: u32, outbid: u32 },
-    Refused(u8),
+pub struct Calculation {
+    pub kept: u32,
+    pub outbid: u32,
 }
 
 #[derive(Clone, Copy)]
@@ -956,40 +984,24 @@ impl Range {
 }
 
 #[derive(Clone, Copy)]
-pub enum Report {
-    Given {
-        free: Tranches,
-        phase: Phase,
-        range: Range,
-    },
-    Refused(u8),
+pub struct Report {
+    pub free: Tranches,
+    pub phase: Phase,
+    pub range: Range,
 }
 
 // A report's answer, with the bidder's own records and the going prices beside it.
 #[derive(Clone, Copy)]
 pub struct Reported {
-    pub report: Report,
+    pub report: Result<Report, Refusal>,
     pub records: [Record; 8],
     pub prices: [GoingPrice; 8],
-}
-
-#[derive(Clone, Copy)]
-pub enum Award {
-    Given,
-    Refused(u8),
-}
-
-// The suggested volume, in tranches.
-#[derive(Clone, Copy)]
-pub enum Volume {
-    Suggested(u32),
-    Refused(u8),
 }
 
 // The result's answer, with the awards of bidder b on product p at b * 8 + p and one price a product beside it.
 #[derive(Clone, Copy)]
 pub struct Awarded {
-    pub award: Award,
+    pub award: Result<(), Refusal>,
     pub tranches: [Tranches; 256],
     pub prices: [Quote; 8],
 }

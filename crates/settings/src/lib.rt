@@ -4,7 +4,7 @@
 
 mod opening;
 
-ghost use Rattle.std.specs.Prelude.{◌≡◌, false, not, ◌&&◌, ◌≤◌, ◌<◌};
+ghost use Rattle.std.specs.Prelude.{◌≡◌, ℕ, Bool, false, not, ◌&&◌, ◌≤◌, ◌<◌};
 ghost use Rattle.rules.specs.Count.{sum_up_to, all_up_to};
 ghost use Rattle.rules.specs.Allowed.{limits, allows};
 ghost use Rattle.rules.specs.Settings.{target_of, item_within, bidder_within, row_within, least_decrement, statewide_within, within_limits};
@@ -79,11 +79,9 @@ fn statewide_limits(t: Setup) -> Limits
 {
     let n = t.terms.products as usize;
     let mut sum: u32 = 0;
-    let mut p = 0;
-    while p < n {
+    for p in 0..n {
         let x = t.item[p];
         sum += x.target.0 as u32;
-        p += 1;
     }
     Limits {
         least: 1,
@@ -186,6 +184,20 @@ impl Fault {
     }
 }
 
+// The first of n that is found.
+fn first<F: Fn(usize) -> Fault>(n: usize, fault: F) -> Fault
+    requires { (i : ℕ) → i < n → F.pre fault i }
+    ensures { (within : ℕ → Bool) → ((i : ℕ) → (f : Fault) → i < n → F.post fault i f → f.found ≡ not (within i)) → result.found ≡ not (all_up_to within n) }
+{
+    for i in 0..n {
+        let f = fault(i);
+        if f.found {
+            return f;
+        }
+    }
+    Fault::none()
+}
+
 fn item_fault(t: Setup, p: usize) -> Fault
     requires { p < 8 }
     ensures { result.found ≡ not (item_within t p) }
@@ -205,15 +217,7 @@ fn item_fault(t: Setup, p: usize) -> Fault
 fn items_fault(t: Setup) -> Fault
     ensures { result.found ≡ not (all_up_to (item_within t) 8) }
 {
-    let mut p: usize = 0;
-    while p < 8 {
-        let f = item_fault(t, p);
-        if f.found {
-            return f;
-        }
-        p += 1;
-    }
-    Fault::none()
+    first(8, |p| item_fault(t, p))
 }
 
 fn statewide_fault(t: Setup) -> Fault
@@ -239,15 +243,7 @@ fn bidder_fault(t: Setup, b: usize) -> Fault
 fn bidders_fault(t: Setup) -> Fault
     ensures { result.found ≡ not (all_up_to (bidder_within t) 32) }
 {
-    let mut b: usize = 0;
-    while b < 32 {
-        let f = bidder_fault(t, b);
-        if f.found {
-            return f;
-        }
-        b += 1;
-    }
-    Fault::none()
+    first(32, |b| bidder_fault(t, b))
 }
 
 // Whatever the least decrement of the table.
@@ -271,15 +267,7 @@ fn row_fault(least: u16, d: Decrements, i: usize) -> Fault
 fn rows_fault(least: u16, d: Decrements) -> Fault
     ensures { result.found ≡ not (all_up_to (row_within least d) 8) }
 {
-    let mut i: usize = 0;
-    while i < 8 {
-        let f = row_fault(least, d, i);
-        if f.found {
-            return f;
-        }
-        i += 1;
-    }
-    Fault::none()
+    first(8, |i| row_fault(least, d, i))
 }
 
 // In the order of the document. The sum of targets is over the products in use.

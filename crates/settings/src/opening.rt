@@ -5,7 +5,7 @@ ghost use Rattle.rules.specs.Settings.{item_of, setup_of, product_at, one_unit, 
 ghost use Rattle.rules.specs.Units.{unit_number, unit_of};
 
 use crate::within_limits;
-use rules::{Decrements, Item, Product, Settings, Setup, Terms, Tranches};
+use rules::{Decrements, Item, Product, Settings, Setup, Terms};
 
 fn item_of(p: Product) -> Item
     ensures { result ≡ item_of p }
@@ -23,19 +23,7 @@ fn item_of(p: Product) -> Item
 fn items_of(s: Settings) -> [Item; 8]
     ensures { result ≡ list_of (λ p. item_of (product_at s p)) 8 }
 {
-    let none = Item {
-        target: Tranches(0),
-        cap: Tranches(0),
-        start: 0,
-    };
-    let mut items = [none; 8];
-    let mut p = 0;
-    while p < 8 {
-        let x = s.product[p];
-        items[p] = item_of(x);
-        p += 1;
-    }
-    items
+    s.product.map(|p| item_of(p))
 }
 
 pub fn setup_of(s: Settings) -> Setup
@@ -78,14 +66,7 @@ fn unit_fits(s: Settings, p: usize) -> bool
 pub fn one_unit(s: Settings) -> bool
     ensures { result ≡ one_unit s }
 {
-    let mut p = 0;
-    while p < 8 {
-        if !unit_fits(s, p) {
-            return false;
-        }
-        p += 1;
-    }
-    true
+    (0..8usize).all(|p| unit_fits(s, p))
 }
 
 // Where this is false, opening answers 15, "a setting outside the above".

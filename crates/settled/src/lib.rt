@@ -6,70 +6,33 @@
 ghost use Rattle.std.specs.Prelude.{◌≡◌};
 
 use rules::{
-    Answer, Awarded, Calculation, CardRead, Chosen, Count, Line, Reported, Settings, Tranches,
-    Volume,
+    Awarded, BasisPoints, Calculation, CardRead, Line, Refusal, Reported, Settings, Tranches,
 };
 
-// The two answers of a call, by their type.
+// The two answers of a call.
 #[derive(Clone, Copy)]
-pub struct Answers {
-    pub one: Answer,
-    pub other: Answer,
-}
-
-#[derive(Clone, Copy)]
-pub struct Counts {
-    pub one: Count,
-    pub other: Count,
-}
-
-#[derive(Clone, Copy)]
-pub struct Calculations {
-    pub one: Calculation,
-    pub other: Calculation,
-}
-
-#[derive(Clone, Copy)]
-pub struct Reports {
-    pub one: Reported,
-    pub other: Reported,
-}
-
-#[derive(Clone, Copy)]
-pub struct Results {
-    pub one: Awarded,
-    pub other: Awarded,
-}
-
-#[derive(Clone, Copy)]
-pub struct Cards {
-    pub one: CardRead,
-    pub other: CardRead,
-}
-
-#[derive(Clone, Copy)]
-pub struct Volumes {
-    pub one: Volume,
-    pub other: Volume,
+pub struct Pair<T> {
+    pub one: T,
+    pub other: T,
 }
 
 // ---- Calls that write: on two boxes, or two cards, with the same bytes
 
-pub fn open(one: &mut [u8], other: &mut [u8], given: Settings) -> Answers
+pub fn open(one: &mut [u8], other: &mut [u8], given: Settings) -> Pair<Result<(), Refusal>>
     requires { one.old ≡ other.old }
     ensures { (result.one ≡ result.other) × (one.new ≡ other.new) }
 {
-    Answers {
+    Pair {
         one: console::open(one, given),
         other: console::open(other, given),
     }
 }
 
-pub fn file(one: &mut [u8], other: &mut [u8], card: &[u8]) -> Answers
+pub fn file(one: &mut [u8], other: &mut [u8], card: &[u8]) -> Pair<Result<(), Refusal>>
     requires { one.old ≡ other.old }
     ensures { (result.one ≡ result.other) × (one.new ≡ other.new) }
 {
-    Answers {
+    Pair {
         one: console::file(one, card),
         other: console::file(other, card),
     }
@@ -79,12 +42,12 @@ pub fn calculate(
     one: &mut [u8],
     other: &mut [u8],
     draw: &[u8],
-    overrides: [Chosen; 8],
-) -> Calculations
+    overrides: [Option<BasisPoints>; 8],
+) -> Pair<Result<Calculation, Refusal>>
     requires { one.old ≡ other.old }
     ensures { (result.one ≡ result.other) × (one.new ≡ other.new) }
 {
-    Calculations {
+    Pair {
         one: console::calculate(one, draw, overrides),
         other: console::calculate(other, draw, overrides),
     }
@@ -94,13 +57,13 @@ pub fn calculate_plain(
     one: &mut [u8],
     other: &mut [u8],
     draw: &[u8],
-    overrides: [Chosen; 8],
+    overrides: [Option<BasisPoints>; 8],
     order: &[u8],
-) -> Calculations
+) -> Pair<Result<Calculation, Refusal>>
     requires { one.old ≡ other.old }
     ensures { (result.one ≡ result.other) × (one.new ≡ other.new) }
 {
-    Calculations {
+    Pair {
         one: console::calculate_plain(one, draw, overrides, order),
         other: console::calculate_plain(other, draw, overrides, order),
     }
@@ -111,21 +74,21 @@ pub fn cutback(
     other: &mut [u8],
     targets: [Tranches; 8],
     caps: [Tranches; 8],
-) -> Answers
+) -> Pair<Result<(), Refusal>>
     requires { one.old ≡ other.old }
     ensures { (result.one ≡ result.other) × (one.new ≡ other.new) }
 {
-    Answers {
+    Pair {
         one: console::cutback(one, targets, caps),
         other: console::cutback(other, targets, caps),
     }
 }
 
-pub fn return_box(one: &mut [u8], other: &mut [u8]) -> Answers
+pub fn return_box(one: &mut [u8], other: &mut [u8]) -> Pair<Result<(), Refusal>>
     requires { one.old ≡ other.old }
     ensures { (result.one ≡ result.other) × (one.new ≡ other.new) }
 {
-    Answers {
+    Pair {
         one: console::return_box(one),
         other: console::return_box(other),
     }
@@ -138,11 +101,11 @@ pub fn write(
     bidder: u8,
     round: u16,
     lines: [Line; 8],
-) -> Answers
+) -> Pair<Result<(), Refusal>>
     requires { one.old ≡ other.old }
     ensures { (result.one ≡ result.other) × (one.new ≡ other.new) }
 {
-    Answers {
+    Pair {
         one: console::write(one, products, bidder, round, lines),
         other: console::write(other, products, bidder, round, lines),
     }
@@ -150,46 +113,46 @@ pub fn write(
 
 // ---- Calls that only read
 
-pub fn count(s: &[u8]) -> Counts
+pub fn count(s: &[u8]) -> Pair<Result<u32, Refusal>>
     ensures { result.one ≡ result.other }
 {
-    Counts {
+    Pair {
         one: console::count(s),
         other: console::count(s),
     }
 }
 
-pub fn report(s: &[u8], bidder: u8) -> Reports
+pub fn report(s: &[u8], bidder: u8) -> Pair<Reported>
     ensures { result.one ≡ result.other }
 {
-    Reports {
+    Pair {
         one: console::report(s, bidder),
         other: console::report(s, bidder),
     }
 }
 
-pub fn result(s: &[u8]) -> Results
+pub fn result(s: &[u8]) -> Pair<Awarded>
     ensures { result.one ≡ result.other }
 {
-    Results {
+    Pair {
         one: console::result(s),
         other: console::result(s),
     }
 }
 
-pub fn read(card: &[u8], products: usize) -> Cards
+pub fn read(card: &[u8], products: usize) -> Pair<CardRead>
     ensures { result.one ≡ result.other }
 {
-    Cards {
+    Pair {
         one: console::read(card, products),
         other: console::read(card, products),
     }
 }
 
-pub fn suggested_volume(bid: u32, ratio: u32) -> Volumes
+pub fn suggested_volume(bid: u32, ratio: u32) -> Pair<Result<u32, Refusal>>
     ensures { result.one ≡ result.other }
 {
-    Volumes {
+    Pair {
         one: console::suggested_volume(bid, ratio),
         other: console::suggested_volume(bid, ratio),
     }

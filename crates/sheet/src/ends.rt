@@ -1,29 +1,15 @@
 // The end of the page: awards and final prices of an auction that is closed, and how any other stands.
 ghost use Rattle.std.specs.Prelude.{◌<◌};
 
-use crate::rounds::cell;
+use crate::rounds::{all_filed, cell, put_unfiled};
 use layout::STATE;
 use names::NAMES;
 use paper::{one, put_bidder, put_price, put_product, put_unit, room};
-use rules::{Award, Phase, Quote, Tranches};
+use rules::{Phase, Quote, Tranches};
+use std::array;
 use text::{ANSWER, put};
 
 // ---- Closed
-
-fn put_heads(out: &mut [u8; ANSWER], at: usize, names: &[u8; NAMES], products: usize) -> usize {
-    let mut to = at;
-    let mut p: usize = 0;
-    while p < 8 {
-        if products <= p {
-            return to;
-        }
-        to = put(out, to, b"<th>");
-        to = put_product(out, to, names, p);
-        to = put(out, to, b"</th>");
-        p += 1;
-    }
-    to
-}
 
 fn put_quote(out: &mut [u8; ANSWER], at: usize, quote: Quote) -> usize {
     let price = quote.price;
@@ -42,30 +28,16 @@ fn put_said(out: &mut [u8; ANSWER], at: usize, quote: Quote) -> usize {
     put(out, b, b"</td>")
 }
 
-fn put_quotes(out: &mut [u8; ANSWER], at: usize, prices: [Quote; 8], products: usize) -> usize {
+// A cell for each count, one for their sum, and the row's end.
+fn put_counts(out: &mut [u8; ANSWER], at: usize, what: &[u8], counts: &[u32]) -> usize {
     let mut to = at;
-    let mut p: usize = 0;
-    while p < 8 {
-        if products <= p {
-            return to;
-        }
-        to = put_quote(out, to, prices[p]);
-        p += 1;
+    let mut sum: u32 = 0;
+    for n in counts {
+        to = cell(out, to, what, *n);
+        sum = sum.wrapping_add(*n);
     }
-    to
-}
-
-fn put_all_said(out: &mut [u8; ANSWER], at: usize, prices: [Quote; 8], products: usize) -> usize {
-    let mut to = at;
-    let mut p: usize = 0;
-    while p < 8 {
-        if products <= p {
-            return to;
-        }
-        to = put_said(out, to, prices[p]);
-        p += 1;
-    }
-    to
+    to = cell(out, to, b"sum", sum);
+    put(out, to, b"</tr>\n")
 }
 
 // A bidder's awards, and their sum.
@@ -73,95 +45,32 @@ fn put_awards(
     out: &mut [u8; ANSWER],
     at: usize,
     names: &[u8; NAMES],
-    all: [Tranches; 256],
+    all: &[Tranches; 256],
     b: usize,
     products: usize,
 ) -> usize
     requires { b < 32 }
 {
-    let start = one(out, at, b"<tr data-bidder=\"#\"><th>", b as u64);
-    let named = put_bidder(out, start, names, b);
-    let mut to = put(out, named, b"</th>");
-    let mut sum: u32 = 0;
-    let mut p: usize = 0;
-    while p < 8 {
-        if p < products {
-            let x = all[b * 8 + p];
-            to = cell(out, to, b"award", x.0 as u32);
-            sum = std::num::wrapping_add_u32(sum, x.0 as u32);
-        }
-        p += 1;
-    }
-    to = cell(out, to, b"sum", sum);
-    put(out, to, b"</tr>\n")
-}
-
-fn put_all_awards(
-    rt: &impl Print,
-    out: &mut [u8; ANSWER],
-    at: usize,
-    names: &[u8; NAMES],
-    all: [Tranches; 256],
-    bidders: usize,
-    products: usize,
-) -> usize {
-    let mut to = at;
-    let mut b: usize = 0;
-    while b < 32 {
-        if bidders <= b {
-            return to;
-        }
-        to = room(rt, out, to);
-        to = put_awards(out, to, names, all, b, products);
-        b += 1;
-    }
-    to
+    let counts: [u32; 8] = array::from_fn(|p| all[b * 8 + p].0 as u32);
+    let mut to = one(out, at, b"<tr data-bidder=\"#\"><th>", b as u64);
+    to = put_bidder(out, to, names, b);
+    to = put(out, to, b"</th>");
+    put_counts(out, to, b"award", &counts[..products.min(8)])
 }
 
 // What all bidders are awarded of a product.
-fn awarded(all: [Tranches; 256], p: usize) -> u32
+fn awarded(all: &[Tranches; 256], p: usize) -> u32
     requires { p < 8 }
 {
-    let mut sum: u32 = 0;
-    let mut b: usize = 0;
-    while b < 32 {
-        let x = all[b * 8 + p];
-        sum = std::num::wrapping_add_u32(sum, x.0 as u32);
-        b += 1;
-    }
-    sum
+    (0..32).fold(0, |sum: u32, b| sum.wrapping_add(all[b * 8 + p].0 as u32))
 }
 
-fn put_totals(out: &mut [u8; ANSWER], at: usize, all: [Tranches; 256], products: usize) -> usize {
-    let mut to = put(out, at, b"<tr class=\"total\"><th>awarded</th>");
-    let mut sum: u32 = 0;
-    let mut p: usize = 0;
-    while p < 8 {
-        if p < products {
-            let n = awarded(all, p);
-            to = cell(out, to, b"awarded", n);
-            sum = std::num::wrapping_add_u32(sum, n);
-        }
-        p += 1;
-    }
-    to = cell(out, to, b"sum", sum);
-    put(out, to, b"</tr>\n")
-}
-
-fn put_targets(out: &mut [u8; ANSWER], at: usize, s: &[u8; STATE], products: usize) -> usize {
-    let mut to = put(out, at, b"<tr class=\"total\"><th>target</th>");
-    let mut sum: u32 = 0;
-    let mut p: usize = 0;
-    while p < 8 {
-        if p < products {
-            let n = book::target(s, p);
-            to = cell(out, to, b"target", n.0 as u32);
-            sum = std::num::wrapping_add_u32(sum, n.0 as u32);
-        }
-        p += 1;
-    }
-    to = cell(out, to, b"sum", sum);
-    put(out, to, b"</tr>\n")
+// A count of each product, and their sum.
+fn put_total(out: &mut [u8; ANSWER], at: usize, what: &[u8], counts: &[u32]) -> usize {
+    let a = put(out, at, b"<tr class=\"total\"><th>");
+    let b = put(out, a, what);
+    let c = put(out, b, b"</th>");
+    put_counts(out, c, what, counts)
 }
 
 fn put_result(
@@ -170,52 +79,47 @@ fn put_result(
     at: usize,
     names: &[u8; NAMES],
     s: &[u8; STATE],
-    all: [Tranches; 256],
-    prices: [Quote; 8],
+    all: &[Tranches; 256],
+    prices: &[Quote; 8],
 ) -> usize {
-    let products = book::products(s);
+    let products = book::products(s).min(8);
     let mut to = put(
         out,
         at,
         b"<section id=\"awards\">\n<h2>Awards and final prices</h2>\n<p>Awards in tranches. The price of a product is the highest at which one of its tranches is held, and all winners get it.</p>\n<table class=\"wide\"><thead><tr><th>bidder</th>",
     );
-    to = put_heads(out, to, names, products);
+    for p in 0..products {
+        to = put(out, to, b"<th>");
+        to = put_product(out, to, names, p);
+        to = put(out, to, b"</th>");
+    }
     to = put(
         out,
         to,
         b"<th>in all</th></tr></thead><tbody>\n<tr class=\"price\"><th>final price</th>",
     );
-    to = put_quotes(out, to, prices, products);
+    for quote in &prices[..products] {
+        to = put_quote(out, to, *quote);
+    }
     to = put(out, to, b"<td></td></tr>\n<tr class=\"price\"><th>");
     to = put_unit(out, to, book::unit(s));
     to = put(out, to, b"</th>");
-    to = put_all_said(out, to, prices, products);
+    for quote in &prices[..products] {
+        to = put_said(out, to, *quote);
+    }
     to = put(out, to, b"<td></td></tr>\n");
-    to = put_all_awards(rt, out, to, names, all, book::bidders(s), products);
-    to = put_totals(out, to, all, products);
-    to = put_targets(out, to, s, products);
+    for b in 0..book::bidders(s).min(32) {
+        to = room(rt, out, to);
+        to = put_awards(out, to, names, all, b, products);
+    }
+    let awards: [u32; 8] = array::from_fn(|p| awarded(all, p));
+    to = put_total(out, to, b"awarded", &awards[..products]);
+    let targets: [u32; 8] = array::from_fn(|p| book::target(s, p).0 as u32);
+    to = put_total(out, to, b"target", &targets[..products]);
     put(out, to, b"</tbody></table>\n</section>\n")
 }
 
 // ---- Open or stopped
-
-fn put_waiting(out: &mut [u8; ANSWER], at: usize, names: &[u8; NAMES], s: &[u8; STATE]) -> usize {
-    let n = book::bidders(s);
-    let mut to = at;
-    let mut b: usize = 0;
-    while b < 32 {
-        if n <= b {
-            return to;
-        }
-        if !book::has_filed(s, b) {
-            to = one(out, to, b" <span data-waiting=\"#\">", b as u64);
-            to = put_bidder(out, to, names, b);
-            to = put(out, to, b"</span>");
-        }
-        b += 1;
-    }
-    to
-}
 
 fn put_open(out: &mut [u8; ANSWER], at: usize, names: &[u8; NAMES], s: &[u8; STATE]) -> usize {
     let mut to = one(
@@ -224,11 +128,11 @@ fn put_open(out: &mut [u8; ANSWER], at: usize, names: &[u8; NAMES], s: &[u8; STA
         b"<section id=\"open\">\n<h2>The auction is open</h2>\n<p>Round # is open; there is no result yet. ",
         book::round(s) as u64,
     );
-    if u32::count_ones(book::filed(s)) == book::bidders(s) as u32 {
+    if all_filed(s) {
         return put(out, to, b"Every bidder has filed.</p>\n</section>\n");
     }
     to = put(out, to, b"Still to file:<span class=\"list\">");
-    to = put_waiting(out, to, names, s);
+    to = put_unfiled(out, to, names, s, b" <span data-waiting=\"#\">");
     put(out, to, b"</span>.</p>\n</section>\n")
 }
 
@@ -266,14 +170,9 @@ pub fn put_end(
         Phase::Issued => to,
         Phase::Closed => {
             let given = console::result(s);
-            let award = given.award;
-            match award {
-                Award::Given => {
-                    let all = given.tranches;
-                    let prices = given.prices;
-                    put_result(rt, out, to, names, s, all, prices)
-                }
-                Award::Refused(_) => to,
+            match given.award {
+                Ok(()) => put_result(rt, out, to, names, s, &given.tranches, &given.prices),
+                Err(_) => to,
             }
         }
     }

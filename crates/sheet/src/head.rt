@@ -38,30 +38,14 @@ fn fact_ends(out: &mut [u8; ANSWER], at: usize) -> usize {
     put(out, at, b"</td></tr>\n")
 }
 
-fn put_sixteen(out: &mut [u8; ANSWER], at: usize, digits: &[u8; 16]) -> usize {
-    put(out, at, digits)
-}
-
-// The first sixteen digits of a sum.
-fn put_short(out: &mut [u8; ANSWER], at: usize, sum: [u8; 64]) -> usize {
-    let mut first = [0u8; 16];
-    let mut i: usize = 0;
-    while i < 16 {
-        first[i] = sum[i];
-        i += 1;
-    }
-    put_sixteen(out, at, &first)
-}
-
 fn put_journal(out: &mut [u8; ANSWER], at: usize, played: Played) -> usize {
-    let sum = played.sum;
     let mut to = put_fact(out, at, b"journal", b"lines");
     to = put_named(out, to, b"", played.lines);
     to = put(out, to, b" line");
     to = plural(out, to, played.lines);
     to = fact_ends(out, to);
     to = put_fact(out, to, b"its last sum", b"sum");
-    to = put_short(out, to, sum);
+    to = put(out, to, &played.sum[..16]);
     to = put(out, to, b" .. (whole at the end)");
     fact_ends(out, to)
 }
@@ -116,25 +100,6 @@ fn put_product_row(
     put(out, to, b"</td></tr>\n")
 }
 
-fn put_product_rows(
-    out: &mut [u8; ANSWER],
-    at: usize,
-    names: &[u8; NAMES],
-    s: &[u8; STATE],
-) -> usize {
-    let n = book::products(s);
-    let mut to = at;
-    let mut p: usize = 0;
-    while p < 8 {
-        if n <= p {
-            return to;
-        }
-        to = put_product_row(out, to, names, s, p);
-        p += 1;
-    }
-    to
-}
-
 fn put_bidder_cell(
     out: &mut [u8; ANSWER],
     at: usize,
@@ -163,19 +128,15 @@ fn put_bidder_rows(
 ) -> usize {
     let n = book::bidders(s);
     let mut to = at;
-    let mut i: usize = 0;
-    while i < 8 {
-        let b = i * 4;
-        if n <= b {
+    for line in 0..8 {
+        if n <= line * 4 {
             return to;
         }
         to = put(out, to, b"<tr>");
-        to = put_bidder_cell(out, to, names, s, b);
-        to = put_bidder_cell(out, to, names, s, b + 1);
-        to = put_bidder_cell(out, to, names, s, b + 2);
-        to = put_bidder_cell(out, to, names, s, b + 3);
+        for b in line * 4..line * 4 + 4 {
+            to = put_bidder_cell(out, to, names, s, b);
+        }
         to = put(out, to, b"</tr>\n");
-        i += 1;
     }
     to
 }
@@ -188,20 +149,6 @@ fn put_percent(out: &mut [u8; ANSWER], at: usize, s: &[u8; STATE], i: usize) -> 
     fill(out, at, b"<td data-percent=\"#\">#</td>", &numbers)
 }
 
-fn put_percents(out: &mut [u8; ANSWER], at: usize, s: &[u8; STATE]) -> usize {
-    let n = book::rows(s);
-    let mut to = at;
-    let mut i: usize = 0;
-    while i < 8 {
-        if n <= i {
-            return to;
-        }
-        to = put_percent(out, to, s, i);
-        i += 1;
-    }
-    to
-}
-
 fn put_decrement(out: &mut [u8; ANSWER], at: usize, s: &[u8; STATE], i: usize) -> usize
     requires { i < 8 }
 {
@@ -210,20 +157,6 @@ fn put_decrement(out: &mut [u8; ANSWER], at: usize, s: &[u8; STATE], i: usize) -
     let a = one(out, at, b"<td data-decrement=\"#\">", i as u64);
     let b = put_points(out, a, points.0);
     put(out, b, b"</td>")
-}
-
-fn put_decrements(out: &mut [u8; ANSWER], at: usize, s: &[u8; STATE]) -> usize {
-    let n = book::rows(s);
-    let mut to = at;
-    let mut i: usize = 0;
-    while i < 8 {
-        if n <= i {
-            return to;
-        }
-        to = put_decrement(out, to, s, i);
-        i += 1;
-    }
-    to
 }
 
 // The settings as the auction was opened.
@@ -244,7 +177,9 @@ pub fn put_settings(
     );
     to = put_unit(out, to, book::unit(s));
     to = put(out, to, b"</th></tr></thead><tbody>\n");
-    to = put_product_rows(out, to, names, s);
+    for p in 0..book::products(s).min(8) {
+        to = put_product_row(out, to, names, s, p);
+    }
     to = put(
         out,
         to,
@@ -256,13 +191,18 @@ pub fn put_settings(
         to,
         b"</tbody></table>\n<table class=\"short\"><tbody>\n<tr><th>where held is above target by so many percent or more</th>",
     );
-    to = put_percents(out, to, s);
+    let rows = book::rows(s).min(8);
+    for i in 0..rows {
+        to = put_percent(out, to, s, i);
+    }
     to = put(
         out,
         to,
         b"</tr>\n<tr><th>the price falls by so many percent</th>",
     );
-    to = put_decrements(out, to, s);
+    for i in 0..rows {
+        to = put_decrement(out, to, s, i);
+    }
     put(out, to, b"</tr>\n</tbody></table>\n</section>\n")
 }
 

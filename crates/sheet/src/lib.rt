@@ -8,7 +8,6 @@ mod rounds;
 mod style;
 
 use audit::{FINE, Fault, NOT_OK, Played, UNUSABLE, begun, is_issued, play_next, put_fault};
-use check::same;
 use layout::STATE;
 use names::NAMES;
 use paper::{ROUNDS, SERIES, flush, is_lost, note, place_at};
@@ -22,14 +21,10 @@ const MANY: usize = 60;
 
 // ---- What is wrong, in a line for the person who asked
 
-fn warn_first(rt: &impl Aside, told: &[u8], n: usize) {
-    if n <= told.len() {
-        warn(rt, &told[0..n]);
-    }
-}
-
 fn warn_part(rt: &impl Aside, told: &[u8; ANSWER], n: usize) {
-    warn_first(rt, told, n);
+    if let Some(part) = told.get(..n) {
+        warn(rt, part);
+    }
 }
 
 fn refuse(rt: &impl Aside, words: &[u8], status: u8) -> u8 {
@@ -40,28 +35,13 @@ fn refuse(rt: &impl Aside, words: &[u8], status: u8) -> u8 {
     status
 }
 
-fn is_fine(fault: Fault) -> bool {
-    if let Fault::None = fault {
-        return true;
-    }
-    false
-}
-
-fn is_unread(fault: Fault) -> bool {
-    if let Fault::Unread = fault {
-        return true;
-    }
-    false
-}
-
 fn refuse_fault(rt: &impl Aside, played: Played, out: &[u8; ANSWER]) -> u8 {
-    let fault = played.fault;
     let mut told = io::large_buffer();
     let a = put_named(&mut told, 0, b"desk: no sheet: line ", played.lines);
     let b = put(&mut told, a, b" of the journal: ");
-    let n = put_fault(&mut told, b, fault, out);
+    let n = put_fault(&mut told, b, played.fault, out);
     warn_part(rt, &told, n);
-    if is_unread(fault) {
+    if matches!(played.fault, Fault::Unread) {
         return UNUSABLE;
     }
     NOT_OK
@@ -95,8 +75,7 @@ fn play<F: Read + Seek>(
     let mut before = [0u8; STATE];
     let mut place = 0;
     let mut played = begun();
-    let mut turns = u64::MAX;
-    while turns > 0 {
+    for _ in 0..u64::MAX {
         let turn = play_next(file, place, played, held, state, prior, &mut before, out);
         played = turn.played;
         if turn.ended {
@@ -104,32 +83,14 @@ fn play<F: Read + Seek>(
         }
         note(place, prior, state, opened, places, prices, helds);
         place = turn.place;
-        turns -= 1;
     }
     played
 }
 
 // ---- The second time
 
-fn is_same(a: &[u8; STATE], b: &[u8; STATE]) -> bool {
-    same(a, b)
-}
-
-fn copy_state(from: &[u8; STATE], to: &mut [u8; STATE]) {
-    *to = *from;
-}
-
 fn is_told(prior: &[u8; STATE], state: &[u8; STATE], r: usize, rounds: usize) -> bool {
-    if rounds <= MANY {
-        return true;
-    }
-    if r == 1 {
-        return true;
-    }
-    if r == rounds {
-        return true;
-    }
-    rounds::has_events(prior, state)
+    (rounds <= MANY) | (r == 1) | (r == rounds) || rounds::has_events(prior, state)
 }
 
 // Tells of a line where it is the calculation of a round that stands. `first` is the state after round 1.
@@ -160,7 +121,7 @@ fn tell(
         to = rounds::put_round(rt, page, to, names, prior, state);
     }
     if r == 1 {
-        copy_state(state, first);
+        *first = *state;
     }
     to
 }
@@ -185,8 +146,7 @@ fn tell_all<F: Read + Seek>(
     let mut to = at;
     let mut place = 0;
     let mut played = begun();
-    let mut turns = u64::MAX;
-    while turns > 0 {
+    for _ in 0..u64::MAX {
         let turn = play_next(
             file,
             place,
@@ -208,7 +168,6 @@ fn tell_all<F: Read + Seek>(
             rt, page, to, names, place, &prior, &state, first, places, rounds,
         );
         place = turn.place;
-        turns -= 1;
     }
     to
 }
@@ -238,12 +197,11 @@ fn put_charts(
     prices: &[u32; SERIES],
     helds: &[u16; SERIES],
 ) -> usize {
+    let told = rounds.min(ROUNDS - 1) as u16;
     let shown = if book::phase(last) == rules::OPEN {
         book::round(last)
-    } else if rounds < ROUNDS {
-        rounds as u16
     } else {
-        4095
+        told
     };
     let mut to = put(
         page,
@@ -257,7 +215,6 @@ fn put_charts(
             to,
             b"<h2>Held against target by round</h2>\n<p class=\"lead\">Tranches held after each round; the target is the dashed line.</p>\n",
         );
-        let told = if rounds < ROUNDS { rounds as u16 } else { 4095 };
         to = paper::put_held_charts(rt, page, to, names, opened, last, told, helds);
     }
     to = put(page, to, b"</section>\n");
@@ -346,7 +303,7 @@ fn write_page<R: Print + Aside, F: Read + Seek>(
 // The names belong to the auction that is in the box.
 fn names_of(rt: &impl Files, path: &[u8], held: &[u8; STATE], state: &[u8; STATE]) -> [u8; NAMES] {
     let mut names = names::none();
-    if is_same(held, state) {
+    if *held == *state {
         paper::read_names(rt, path, &mut names);
     }
     names
@@ -403,39 +360,23 @@ fn sheet_of<R: Files + Print + Aside>(
         &mut helds,
         &mut out,
     );
-    let fault = played.fault;
-    if !is_fine(fault) {
+    if !matches!(played.fault, Fault::None) {
         return refuse_fault(rt, played, &out);
     }
     if played.torn {
         return refuse_torn(rt, played.lines);
     }
-    if !named {
-        if !is_same(held, &state) {
-            return refuse(
-                rt,
-                b"the box is not what its journal leaves; desk --check BOX says more\n",
-                NOT_OK,
-            );
-        }
+    if !named && *held != state {
+        return refuse(
+            rt,
+            b"the box is not what its journal leaves; desk --check BOX says more\n",
+            NOT_OK,
+        );
     }
     // of a journal that a return closed the auction is the one before it
-    if is_issued(&state) {
-        copy_state(&prior, &mut state);
-        return page_of(
-            rt,
-            file,
-            path,
-            held,
-            played,
-            true,
-            &opened,
-            &state,
-            &places,
-            &mut prices,
-            &helds,
-            &mut out,
-        );
+    let returned = is_issued(&state);
+    if returned {
+        state = prior;
     }
     page_of(
         rt,
@@ -443,7 +384,7 @@ fn sheet_of<R: Files + Print + Aside>(
         path,
         held,
         played,
-        false,
+        returned,
         &opened,
         &state,
         &places,
@@ -454,7 +395,7 @@ fn sheet_of<R: Files + Print + Aside>(
 }
 
 fn open_named<R: Files>(rt: &R, path: &[u8], journal: &[u8]) -> std::io::Result<R::File> {
-    if journal.len() == 0 {
+    if journal.is_empty() {
         return store::open_journal(rt, path);
     }
     store::open_read(rt, journal)
@@ -462,7 +403,7 @@ fn open_named<R: Files>(rt: &R, path: &[u8], journal: &[u8]) -> std::io::Result<
 
 fn refuse_unread(rt: &impl Aside, kind: ErrorKind, journal: &[u8]) -> u8 {
     if kind == ErrorKind::NotFound {
-        if journal.len() == 0 {
+        if journal.is_empty() {
             return refuse(rt, b"the box has no journal\n", NOT_OK);
         }
         return refuse(rt, b"there is no such journal\n", UNUSABLE);
@@ -477,10 +418,7 @@ fn of_journal<R: Files + Print + Aside>(
     held: &[u8; STATE],
 ) -> u8 {
     match open_named(rt, path, journal) {
-        Ok(opened) => {
-            let mut file = opened;
-            sheet_of(rt, &mut file, path, journal.len() != 0, held)
-        }
+        Ok(mut file) => sheet_of(rt, &mut file, path, !journal.is_empty(), held),
         Err(e) => refuse_unread(rt, e.kind(), journal),
     }
 }
@@ -499,7 +437,7 @@ pub fn sheet<R: Files + Print + Aside>(rt: &R, path: &[u8], journal: &[u8]) -> u
     match store::load(rt, path, &mut held) {
         Loaded::Whole => of_journal(rt, path, journal, &held),
         Loaded::Missing => {
-            if (journal.len() != 0) | store::is_beside(rt, path, b".journal") {
+            if !journal.is_empty() | store::is_beside(rt, path, b".journal") {
                 return of_journal(rt, path, journal, &held);
             }
             refuse(rt, b"there is no such box\n", UNUSABLE)

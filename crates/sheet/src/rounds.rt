@@ -4,14 +4,14 @@ ghost use Rattle.std.specs.Prelude.{◌<◌};
 use layout::STATE;
 use names::NAMES;
 use paper::{fill, is_cut, one, put_bidder, put_price, put_product, put_unit, room};
-use rules::{Lot, Lots};
+use rules::Lots;
 use story::{Moves, moves_of};
 use text::{ANSWER, put};
 
 // ---- What was done, summed
 
 // As the moves of a bidder on a product, of all lots together.
-#[derive(Clone, Copy)]
+#[derive(Clone, Copy, Default)]
 struct Sums {
     bid: u32,
     retained: u32,
@@ -36,25 +36,13 @@ fn sums_of(m: Moves) -> Sums {
 
 fn added(a: Sums, b: Sums) -> Sums {
     Sums {
-        bid: std::num::wrapping_add_u32(a.bid, b.bid),
-        retained: std::num::wrapping_add_u32(a.retained, b.retained),
-        denied: std::num::wrapping_add_u32(a.denied, b.denied),
-        cancelled: std::num::wrapping_add_u32(a.cancelled, b.cancelled),
-        deemed: std::num::wrapping_add_u32(a.deemed, b.deemed),
-        freed: std::num::wrapping_add_u32(a.freed, b.freed),
-        gone: std::num::wrapping_add_u32(a.gone, b.gone),
-    }
-}
-
-fn nothing() -> Sums {
-    Sums {
-        bid: 0,
-        retained: 0,
-        denied: 0,
-        cancelled: 0,
-        deemed: 0,
-        freed: 0,
-        gone: 0,
+        bid: a.bid.wrapping_add(b.bid),
+        retained: a.retained.wrapping_add(b.retained),
+        denied: a.denied.wrapping_add(b.denied),
+        cancelled: a.cancelled.wrapping_add(b.cancelled),
+        deemed: a.deemed.wrapping_add(b.deemed),
+        freed: a.freed.wrapping_add(b.freed),
+        gone: a.gone.wrapping_add(b.gone),
     }
 }
 
@@ -62,57 +50,33 @@ fn nothing() -> Sums {
 fn on_product(before: &[u8; STATE], after: &[u8; STATE], p: usize) -> Sums
     requires { p < 8 }
 {
-    let n = book::bidders(before);
-    let mut sum = nothing();
-    let mut b: usize = 0;
-    while b < 32 {
-        if n <= b {
-            return sum;
-        }
-        sum = added(sum, sums_of(moves_of(before, after, b, p)));
-        b += 1;
-    }
-    sum
+    (0..book::bidders(before).min(32)).fold(Sums::default(), |sum, b| {
+        added(sum, sums_of(moves_of(before, after, b, p)))
+    })
 }
 
 // Of a bidder on all products.
 fn of_bidder(before: &[u8; STATE], after: &[u8; STATE], b: usize) -> Sums
     requires { b < 32 }
 {
-    let n = book::products(before);
-    let mut sum = nothing();
-    let mut p: usize = 0;
-    while p < 8 {
-        if n <= p {
-            return sum;
-        }
-        sum = added(sum, sums_of(moves_of(before, after, b, p)));
-        p += 1;
-    }
-    sum
+    (0..book::products(before).min(8)).fold(Sums::default(), |sum, p| {
+        added(sum, sums_of(moves_of(before, after, b, p)))
+    })
 }
 
 fn in_all(before: &[u8; STATE], after: &[u8; STATE]) -> Sums {
-    let n = book::products(before);
-    let mut sum = nothing();
-    let mut p: usize = 0;
-    while p < 8 {
-        if n <= p {
-            return sum;
-        }
-        sum = added(sum, on_product(before, after, p));
-        p += 1;
-    }
-    sum
+    (0..book::products(before).min(8)).fold(Sums::default(), |sum, p| {
+        added(sum, on_product(before, after, p))
+    })
 }
 
 // Tranches kept in step 2, and outbid in step 4.
 fn kept(m: Sums) -> u32 {
-    std::num::wrapping_add_u32(m.retained, m.denied)
+    m.retained.wrapping_add(m.denied)
 }
 
 fn outbid(m: Sums) -> u32 {
-    std::num::wrapping_add_u32(m.freed, m.gone)
+    m.freed.wrapping_add(m.gone)
 }
 
 // Whether more was done than to take the bids as they are.
@@ -149,6 +113,19 @@ pub fn put_standing(out: &mut [u8; ANSWER], at: usize, held: u32, target: u32) -
     cell(out, at, b"excess", held - target)
 }
 
+// A price as the box counts it, and as people say it, with what is to be said of it.
+pub fn put_prices(out: &mut [u8; ANSWER], at: usize, unit: u8, amount: u32, after: &[u8]) -> usize {
+    let a = one(
+        out,
+        at,
+        b"<td data-what=\"price\">#</td><td data-what=\"said\">",
+        amount as u64,
+    );
+    let b = put_price(out, a, unit, amount);
+    let c = put(out, b, after);
+    put(out, c, b"</td>")
+}
+
 fn put_row(
     out: &mut [u8; ANSWER],
     at: usize,
@@ -171,17 +148,13 @@ fn put_row(
         &numbers,
     );
     to = put_product(out, to, names, p);
-    to = one(
-        out,
-        to,
-        b"</th><td data-what=\"price\">#</td><td data-what=\"said\">",
-        price as u64,
-    );
-    to = put_price(out, to, book::unit(before), price);
-    if book::mark(before, p) != 0 {
-        to = put(out, to, b" overridden");
-    }
-    to = put(out, to, b"</td>");
+    to = put(out, to, b"</th>");
+    let said: &[u8] = if book::mark(before, p) != 0 {
+        b" overridden"
+    } else {
+        b""
+    };
+    to = put_prices(out, to, book::unit(before), price, said);
     to = cell(out, to, b"bid", m.bid);
     to = cell(out, to, b"held", held);
     to = cell(out, to, b"target", target.0 as u32);
@@ -192,26 +165,6 @@ fn put_row(
     to = cell(out, to, b"deemed", m.deemed);
     to = cell(out, to, b"outbid", outbid(m));
     put(out, to, b"</tr>\n")
-}
-
-fn put_rows(
-    out: &mut [u8; ANSWER],
-    at: usize,
-    names: &[u8; NAMES],
-    before: &[u8; STATE],
-    after: &[u8; STATE],
-) -> usize {
-    let n = book::products(before);
-    let mut to = at;
-    let mut p: usize = 0;
-    while p < 8 {
-        if n <= p {
-            return to;
-        }
-        to = put_row(out, to, names, before, after, p);
-        p += 1;
-    }
-    to
 }
 
 fn put_products(
@@ -232,51 +185,35 @@ fn put_products(
         to,
         b"</th><th>bid</th><th>held</th><th>target</th><th>excess</th><th>re&#173;tained</th><th>denied</th><th>can&#173;celled</th><th>deemed bid</th><th>outbid</th></tr></thead><tbody>\n",
     );
-    to = put_rows(out, to, names, before, after);
+    for p in 0..book::products(before).min(8) {
+        to = put_row(out, to, names, before, after, p);
+    }
     put(out, to, b"</tbody></table>\n")
 }
 
 // ---- The bidders of a round
 
-// The bidders without a card: ` 3 Delta, 5`
-fn put_defaults(
+// The bidders without a card, each after a form with its number: ` 3 Delta, 5`
+pub fn put_unfiled(
     out: &mut [u8; ANSWER],
     at: usize,
     names: &[u8; NAMES],
-    before: &[u8; STATE],
+    s: &[u8; STATE],
+    form: &[u8],
 ) -> usize {
-    let n = book::bidders(before);
     let mut to = at;
-    let mut b: usize = 0;
-    while b < 32 {
-        if n <= b {
-            return to;
-        }
-        if !book::has_filed(before, b) {
-            to = one(out, to, b" <span data-default=\"#\">", b as u64);
+    for b in 0..book::bidders(s).min(32) {
+        if !book::has_filed(s, b) {
+            to = one(out, to, form, b as u64);
             to = put_bidder(out, to, names, b);
             to = put(out, to, b"</span>");
         }
-        b += 1;
     }
     to
 }
 
-// `N `, of what is done on a product.
-fn put_first(out: &mut [u8; ANSWER], at: usize, p: usize, what: &[u8], n: u32) -> usize {
-    let a = one(out, at, b" <span data-product=\"#\" data-what=\"", p as u64);
-    let b = put(out, a, what);
-    one(out, b, b"\"><b>#</b> ", n as u64)
-}
-
-// The price at its end.
-fn put_at(out: &mut [u8; ANSWER], at: usize, unit: u8, amount: u32) -> usize {
-    let a = one(out, at, b" at <i data-price=\"#\">", amount as u64);
-    let b = put_price(out, a, unit, amount);
-    put(out, b, b"</i></span>")
-}
-
-// `N WORDS 0 PSE&G`: the words end in `product`.
+// `N of WHOLE WORDS 0 PSE&G at PRICE`, of what is done on a product: a part says of how many, and the price is of that unit. The words end
+// in `product`.
 fn put_move(
     out: &mut [u8; ANSWER],
     at: usize,
@@ -284,73 +221,30 @@ fn put_move(
     p: usize,
     what: &[u8],
     n: u32,
+    whole: Option<u32>,
     words: &[u8],
-) -> usize {
-    let a = put_first(out, at, p, what, n);
-    let b = put(out, a, words);
-    put_product(out, b, names, p)
-}
-
-fn put_plain(
-    out: &mut [u8; ANSWER],
-    at: usize,
-    names: &[u8; NAMES],
-    p: usize,
-    what: &[u8],
-    n: u32,
-    words: &[u8],
+    price: Option<(u8, u32)>,
 ) -> usize {
     if n == 0 {
         return at;
     }
-    let a = put_move(out, at, names, p, what, n, words);
-    put(out, a, b"</span>")
-}
-
-// The same, with a price after it.
-fn put_priced(
-    out: &mut [u8; ANSWER],
-    at: usize,
-    names: &[u8; NAMES],
-    p: usize,
-    what: &[u8],
-    n: u32,
-    words: &[u8],
-    unit: u8,
-    amount: u32,
-) -> usize {
-    if n == 0 {
-        return at;
-    }
-    let a = put_move(out, at, names, p, what, n, words);
-    put_at(out, a, unit, amount)
-}
-
-// A lot, at its price; of how many, where it is a part.
-fn put_lot(
-    out: &mut [u8; ANSWER],
-    at: usize,
-    names: &[u8; NAMES],
-    p: usize,
-    what: &[u8],
-    lot: Lot,
-    of: Lot,
-    words: &[u8],
-    unit: u8,
-) -> usize {
-    if lot.count.0 == 0 {
-        return at;
-    }
-    let mut to = put_first(out, at, p, what, lot.count.0 as u32);
-    if lot.count.0 < of.count.0 {
-        to = one(out, to, b"of # ", of.count.0 as u64);
+    let mut to = one(out, at, b" <span data-product=\"#\" data-what=\"", p as u64);
+    to = put(out, to, what);
+    to = one(out, to, b"\"><b>#</b> ", n as u64);
+    if let Some(all) = whole {
+        to = one(out, to, b"of # ", all as u64);
     }
     to = put(out, to, words);
     to = put_product(out, to, names, p);
-    put_at(out, to, unit, lot.exit)
+    if let Some((unit, amount)) = price {
+        to = one(out, to, b" at <i data-price=\"#\">", amount as u64);
+        to = put_price(out, to, unit, amount);
+        to = put(out, to, b"</i>");
+    }
+    put(out, to, b"</span>")
 }
 
-// Each lot by itself.
+// Each lot by itself, at its price; of how many, where it is a part.
 fn put_lots(
     out: &mut [u8; ANSWER],
     at: usize,
@@ -363,10 +257,22 @@ fn put_lots(
     unit: u8,
 ) -> usize {
     let mut to = at;
-    let mut i: usize = 0;
-    while i < 4 {
-        to = put_lot(out, to, names, p, what, l.at(i), of.at(i), words, unit);
-        i += 1;
+    for i in 0..4 {
+        let lot = l.at(i);
+        let n = lot.count.0 as u32;
+        let all = of.at(i).count.0 as u32;
+        let whole = if n < all { Some(all) } else { None };
+        to = put_move(
+            out,
+            to,
+            names,
+            p,
+            what,
+            n,
+            whole,
+            words,
+            Some((unit, lot.exit)),
+        );
     }
     to
 }
@@ -386,60 +292,60 @@ fn put_moves(
     let unit = book::unit(before);
     let q = book::before(after, p).amount();
     let going = book::price(before, p).amount();
-    let withdrawn = m.withdrawn;
-    let retained = m.retained;
-    let stood = m.stood;
-    let gone = m.gone;
     let mut to = put_lots(
         out,
         at,
         names,
         p,
         b"retained",
-        retained,
-        withdrawn,
+        m.retained,
+        m.withdrawn,
         b"retained on product ",
         unit,
     );
-    to = put_priced(
+    to = put_move(
         out,
         to,
         names,
         p,
         b"denied",
         m.denied,
+        None,
         b"denied, held on product ",
-        unit,
-        q,
+        Some((unit, q)),
     );
-    to = put_plain(
+    to = put_move(
         out,
         to,
         names,
         p,
         b"cancelled",
         m.cancelled,
+        None,
         b"of the increase cancelled on product ",
+        None,
     );
-    to = put_priced(
+    to = put_move(
         out,
         to,
         names,
         p,
         b"deemed",
         m.deemed,
+        None,
         b"deemed bid on product ",
-        unit,
-        going,
+        Some((unit, going)),
     );
-    to = put_plain(
+    to = put_move(
         out,
         to,
         names,
         p,
         b"freed",
         m.freed,
+        None,
         b"denied outbid, free again, on product ",
+        None,
     );
     put_lots(
         out,
@@ -447,8 +353,8 @@ fn put_moves(
         names,
         p,
         b"gone",
-        gone,
-        stood,
+        m.gone,
+        m.stood,
         b"retained outbid, gone, on product ",
         unit,
     )
@@ -476,43 +382,16 @@ fn put_bidder_moves(
     );
     let named = put_bidder(out, start, names, b);
     let mut to = put(out, named, b"</b>:");
-    let n = book::products(before);
-    let mut p: usize = 0;
-    while p < 8 {
-        if p < n {
-            to = put_moves(out, to, names, before, after, b, p);
-        }
-        p += 1;
+    for p in 0..book::products(before).min(8) {
+        to = put_moves(out, to, names, before, after, b, p);
     }
     put(out, to, b"</p>\n")
 }
 
-fn put_bidders(
-    rt: &impl Print,
-    out: &mut [u8; ANSWER],
-    at: usize,
-    names: &[u8; NAMES],
-    before: &[u8; STATE],
-    after: &[u8; STATE],
-) -> usize {
-    let n = book::bidders(before);
-    let mut to = at;
-    let mut b: usize = 0;
-    while b < 32 {
-        if n <= b {
-            return to;
-        }
-        to = room(rt, out, to);
-        to = put_bidder_moves(out, to, names, before, after, b);
-        b += 1;
-    }
-    to
-}
-
 // ---- A round
 
-fn has_default(before: &[u8; STATE]) -> bool {
-    u32::count_ones(book::filed(before)) != book::bidders(before) as u32
+pub fn all_filed(s: &[u8; STATE]) -> bool {
+    u32::count_ones(book::filed(s)) == book::bidders(s) as u32
 }
 
 // `kept 1, outbid 0; total excess supply after it 6; default bids: none`
@@ -536,12 +415,12 @@ fn put_summary(
         b"<p class=\"sum\"><span data-what=\"bid\">#</span> bid in all; kept <span data-what=\"kept\">#</span>, outbid <span data-what=\"outbid\">#</span>; total excess supply after it <span data-what=\"excess\">#</span>; default bids:",
         &numbers,
     );
-    if has_default(before) {
-        to = put(out, to, b"<span class=\"list\">");
-        to = put_defaults(out, to, names, before);
-        to = put(out, to, b"</span>");
-    } else {
+    if all_filed(before) {
         to = put(out, to, b" none");
+    } else {
+        to = put(out, to, b"<span class=\"list\">");
+        to = put_unfiled(out, to, names, before, b" <span data-default=\"#\">");
+        to = put(out, to, b"</span>");
     }
     put(out, to, b"</p>\n")
 }
@@ -565,7 +444,10 @@ pub fn put_round(
     );
     to = put_summary(out, to, names, before, after);
     to = put_products(out, to, names, before, after);
-    to = put_bidders(rt, out, to, names, before, after);
+    for b in 0..book::bidders(before).min(32) {
+        to = room(rt, out, to);
+        to = put_bidder_moves(out, to, names, before, after, b);
+    }
     to = put(out, to, b"</section>\n");
     room(rt, out, to)
 }
@@ -601,14 +483,7 @@ fn put_held_price(out: &mut [u8; ANSWER], at: usize, s: &[u8; STATE], p: usize) 
     let price = book::price(s, p).amount();
     let a = cell(out, at, b"held", held);
     let b = put_standing(out, a, held, target.0 as u32);
-    let c = one(
-        out,
-        b,
-        b"<td data-what=\"price\">#</td><td data-what=\"said\">",
-        price as u64,
-    );
-    let d = put_price(out, c, book::unit(s), price);
-    put(out, d, b"</td>")
+    put_prices(out, b, book::unit(s), price, b"")
 }
 
 fn put_cut_row(
@@ -629,26 +504,6 @@ fn put_cut_row(
     put(out, e, b"</tr>\n")
 }
 
-fn put_cut_rows(
-    out: &mut [u8; ANSWER],
-    at: usize,
-    names: &[u8; NAMES],
-    first: &[u8; STATE],
-    second: &[u8; STATE],
-) -> usize {
-    let n = book::products(first);
-    let mut to = at;
-    let mut p: usize = 0;
-    while p < 8 {
-        if n <= p {
-            return to;
-        }
-        to = put_cut_row(out, to, names, first, second, p);
-        p += 1;
-    }
-    to
-}
-
 // What a bidder had above the revised cap of a product.
 fn above_cap(first: &[u8; STATE], second: &[u8; STATE], b: usize, p: usize) -> u32
     requires { (b < 32) × (p < 8) }
@@ -656,10 +511,7 @@ fn above_cap(first: &[u8; STATE], second: &[u8; STATE], b: usize, p: usize) -> u
     let k = b * 8 + p;
     let was = book::record(first, k);
     let is = book::record(second, k);
-    if was.going.0 <= is.going.0 {
-        return 0;
-    }
-    (was.going.0 - is.going.0) as u32
+    was.going.0.saturating_sub(is.going.0) as u32
 }
 
 fn put_freed(
@@ -677,62 +529,26 @@ fn put_freed(
     if n == 0 {
         return at;
     }
-    let numbers = [b as u64];
-    let mut to = fill(
+    let mut to = one(
         out,
         at,
         b"<p class=\"moves\" data-bidder=\"#\"><b>bidder ",
-        &numbers,
+        b as u64,
     );
     to = put_bidder(out, to, names, b);
     to = put(out, to, b"</b>:");
-    to = put_plain(
+    to = put_move(
         out,
         to,
         names,
         p,
         b"above",
         n,
+        None,
         b"above the cap, free again, on product ",
+        None,
     );
     put(out, to, b"</p>\n")
-}
-
-fn put_bidder_freed(
-    rt: &impl Print,
-    out: &mut [u8; ANSWER],
-    at: usize,
-    names: &[u8; NAMES],
-    first: &[u8; STATE],
-    second: &[u8; STATE],
-    b: usize,
-) -> usize
-    requires { b < 32 }
-{
-    let mut to = room(rt, out, at);
-    let mut p: usize = 0;
-    while p < 8 {
-        to = put_freed(out, to, names, first, second, b, p);
-        p += 1;
-    }
-    to
-}
-
-fn put_all_freed(
-    rt: &impl Print,
-    out: &mut [u8; ANSWER],
-    at: usize,
-    names: &[u8; NAMES],
-    first: &[u8; STATE],
-    second: &[u8; STATE],
-) -> usize {
-    let mut to = at;
-    let mut b: usize = 0;
-    while b < 32 {
-        to = put_bidder_freed(rt, out, to, names, first, second, b);
-        b += 1;
-    }
-    to
 }
 
 pub fn put_cutback(
@@ -755,8 +571,15 @@ pub fn put_cutback(
     );
     to = put_unit(out, to, book::unit(first));
     to = put(out, to, b"</th></tr></thead><tbody>\n");
-    to = put_cut_rows(out, to, names, first, second);
+    for p in 0..book::products(first).min(8) {
+        to = put_cut_row(out, to, names, first, second, p);
+    }
     to = put(out, to, b"</tbody></table>\n");
-    to = put_all_freed(rt, out, to, names, first, second);
+    for b in 0..32 {
+        to = room(rt, out, to);
+        for p in 0..8 {
+            to = put_freed(out, to, names, first, second, b, p);
+        }
+    }
     put(out, to, b"</section>\n")
 }

@@ -1,8 +1,7 @@
 -- Document 02, request 10: document 01's chain by the plain engine, in both orders, computed over the definitions. Assumes nothing.
-use Rattle.std.specs.Prelude.{◌≡◌, refl, List, [], ◌∷◌, ℕ, ◌%◌, replicate}
+use Rattle.std.specs.Prelude.{◌≡◌, refl, List, [], ◌∷◌, ℕ, ◌%◌, replicate, Some}
+use Rattle.rules.specs.Price.{Override}
 use Rattle.rules.specs.declared.Auction.{Auction}
-use Rattle.rules.specs.declared.Chosen.{Chosen}
-use Rattle.rules.specs.declared.Override.TheVariants as override
 use Rattle.rules.specs.Count.{all_up_to, from, list_of}
 use Rattle.rules.specs.Units.{points}
 use Rattle.rules.specs.Answers.{first_number}
@@ -28,14 +27,14 @@ kept_after order n =
     list_of (λ i. (visits 2 3 (target_of (setup chained)) (ticked chained) (drawn (draw 0 1 2)) (λ j. drawn order (j % 2)) (kept (accepted_all chained) 0) i).count)
     n
 
-abbrev over : List Chosen
-over = record { decrement = override.Points (points 1001) } ∷ replicate 7 not_chosen
+abbrev over : List Override
+over = Some (points 1001) ∷ replicate 7 not_chosen
 
 pub data Row : Type 0 where
   -- an order, and what is kept before the first visit and after each
   by : List ℕ → List ℕ → Row
   -- a draw, overrides, an order, and the number
-  refused : List ℕ → List Chosen → List ℕ → ℕ → Row
+  refused : List ℕ → List Override → List ℕ → ℕ → Row
 
 unfoldable pub Shown : Row → Type 0
 Shown (by order counts) = (kept_after order 7 ≡ counts) × (calculated_plain chained (draw 0 1 2) [] order ≡ figures chain 3 0)

@@ -1,8 +1,7 @@
 -- Document 02, request 1: overrides as one table, computed over the definitions, beside the starred cases. Assumes nothing.
-use Rattle.std.specs.Prelude.{◌≡◌, refl, true, List, [], ◌∷◌, ◌++◌, ℕ, replicate}
+use Rattle.std.specs.Prelude.{◌≡◌, refl, true, List, [], ◌∷◌, ◌++◌, ℕ, replicate, Some}
+use Rattle.rules.specs.Price.{Override}
 use Rattle.rules.specs.declared.Line.{Line}
-use Rattle.rules.specs.declared.Override.TheVariants as override
-use Rattle.rules.specs.declared.Chosen.{Chosen}
 use Rattle.rules.specs.declared.Setup.{Setup}
 use Rattle.rules.specs.declared.Auction.{Auction}
 use Rattle.rules.specs.Count.{all_up_to, from}
@@ -42,32 +41,32 @@ state start phase round p q mark n =
     (seat 1 0 ∷ seat 1 0 ∷ replicate 30 no_seat)
     (settings start).decrements (g 1 ∷ replicate 7 nothing ++ g n ∷ replicate 247 nothing) no_cards
 
-abbrev none : Chosen
+abbrev none : Override
 none = not_chosen
 
-abbrev by : ℕ → Chosen
-by n = record { decrement = override.Points (points n) }
+abbrev by : ℕ → Override
+by n = Some (points n)
 
 -- the same for both products: the second is never above its target
-abbrev both : Chosen → List Chosen
+abbrev both : Override → List Override
 both o = o ∷ o ∷ replicate 6 none
 
 pub data Row : Type 0 where
   -- round 1, both bidding 1 on the first product: its starting price; the override; its price for round 2 and the mark
-  first : ℕ → Chosen → ℕ → ℕ → Row
+  first : ℕ → Override → ℕ → ℕ → Row
   -- before; the second bidder's line on the first product, the first bidding 1; the override; after
-  then : Auction → Line → Chosen → Auction → Row
+  then : Auction → Line → Override → Auction → Row
   -- before and after a cutback that changes no number
   cut : Auction → Auction → Row
   -- an auction, a draw, overrides and the number of a refusal
-  refused : Auction → List ℕ → List Chosen → ℕ → Row
+  refused : Auction → List ℕ → List Override → ℕ → Row
 
 -- ---- what a row says
 
 abbrev filed : Auction → Line → Auction
 filed a l = with_card (with_card a 0 (card (b 1) (b 0))) 1 (card l (b 0))
 
-abbrev Played : Auction → Line → Chosen → Auction → Type 0
+abbrev Played : Auction → Line → Override → Auction → Type 0
 Played a l o z =
     (stands (filed a l) ≡ true)
     × (round_number (0 ∷ 1 ∷ []) (both o) (filed a l) ≡ 0)

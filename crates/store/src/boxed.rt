@@ -4,10 +4,9 @@ ghost use Rattle.std.specs.Prelude.{cond, true, false, ◌≡◌};
 use crate::files::{Filled, Loaded, equal, filled_from, load, same};
 use crate::names::beside;
 use crate::reason::{number_of, put_reason};
-use crate::saving::{Act, Saved, Stage, save};
+use crate::saving::{Act, Stage, Stopped, save, stop_at};
 use crate::system::{Numbered, open_read};
 use layout::STATE;
-use rules::Report;
 use std::fs::File;
 use std::io::ErrorKind;
 use std::rt::Files;
@@ -23,11 +22,7 @@ pub enum Kind {
 
 // Whether the state's length is wrong: then each call is lent a slice of another length, and answers for it itself.
 pub fn is_wrong(kind: Kind) -> bool {
-    match kind {
-        Kind::Wrong => true,
-        Kind::Loose => false,
-        Kind::Filed => false,
-    }
+    matches!(kind, Kind::Wrong)
 }
 
 // ---- A changed state, kept
@@ -48,11 +43,9 @@ fn put_not_written(out: &mut [u8; ANSWER], what: &[u8], why: i32) -> usize {
 }
 
 // Why a state was not saved.
-fn put_stage(out: &mut [u8; ANSWER], saved: Saved) -> usize {
-    let why = saved.why;
-    let stage = saved.stage;
-    match stage {
-        Stage::Done => 0,
+fn put_stage(out: &mut [u8; ANSWER], stopped: Stopped) -> usize {
+    let why = stopped.why;
+    match stopped.stage {
         Stage::LongName => put(
             out,
             0,
@@ -125,32 +118,30 @@ fn not_kept(said: usize) -> Outcome
 }
 
 // What becomes of a save, and what is said of it.
-fn outcome_of(saved: Saved, n: usize, out: &mut [u8; ANSWER]) -> Outcome {
-    let stage = saved.stage;
-    match stage {
-        Stage::Done => kept(n),
-        Stage::Unsure => Outcome {
-            kept: true,
-            said: put_stage(out, saved),
-            ends: true,
-        },
-        _ => not_kept(put_stage(out, saved)),
+fn outcome_of(saved: Result<(), Stopped>, n: usize, out: &mut [u8; ANSWER]) -> Outcome {
+    match saved {
+        Ok(()) => kept(n),
+        Err(stopped) => {
+            let said = put_stage(out, stopped);
+            match stopped.stage {
+                Stage::Unsure => Outcome {
+                    kept: true,
+                    said,
+                    ends: true,
+                },
+                _ => not_kept(said),
+            }
+        }
     }
 }
 
 // The length of an answer's first line, without its end.
 fn first_line(answer: &[u8; ANSWER], n: usize) -> usize {
-    let mut i = 0;
-    while i < ANSWER {
-        if n <= i {
-            return i;
-        }
-        if answer[i] == b'\n' {
-            return i;
-        }
-        i += 1;
-    }
-    i
+    let end = n.min(ANSWER);
+    answer[..end]
+        .iter()
+        .position(|b| *b == b'\n')
+        .unwrap_or(end)
 }
 
 fn keep_filed<R: Files<File = File> + Numbered>(
@@ -167,14 +158,7 @@ fn keep_filed<R: Files<File = File> + Numbered>(
         if same(rt, path, state) {
             return kept(n);
         }
-        return outcome_of(
-            Saved {
-                stage: Stage::Changed,
-                why: 0,
-            },
-            n,
-            out,
-        );
+        return outcome_of(Err(stop_at(Stage::Changed, 0)), n, out);
     }
     let said = first_line(out, n);
     let saved = save(rt, path, act, given, out, said, state, work);
@@ -230,15 +214,13 @@ pub fn copy_before(
     match load(rt, &before[..b], copy) {
         Loaded::Missing => return Undo::Nothing,
         Loaded::Whole => {}
-        Loaded::Wrong => return Undo::Strange,
-        Loaded::Unread(_) => return Undo::Strange,
+        Loaded::Wrong | Loaded::Unread(_) => return Undo::Strange,
     }
     if equal(copy, state) {
         return Undo::Nothing;
     }
     match said_of(copy) {
-        0 => Undo::Copy,
-        3 => Undo::Copy,
+        0 | 3 => Undo::Copy,
         _ => Undo::Strange,
     }
 }
@@ -247,15 +229,10 @@ pub fn copy_before(
 
 // 1, 2, and 3 for an issued state, as a report says them; 0 where the state stands, which has a bidder 0.
 fn said_of(s: &[u8]) -> u8 {
-    let told = console::report(s, 0);
-    let report = told.report;
-    let Report::Refused(n) = report else {
-        return 0;
-    };
-    if n > 3 {
-        return 0;
+    match console::report(s, 0).report {
+        Err(e) if e.number() <= 3 => e.number(),
+        _ => 0,
     }
-    n
 }
 
 pub fn number_on(kind: Kind, state: &[u8; STATE]) -> u8 {
@@ -281,12 +258,8 @@ pub fn load_names(rt: &impl Files, path: &[u8], room: &mut [u8; ANSWER]) -> Fill
     let n = beside(path, b".names", &mut name);
     match filled_from(rt, &name[..n], room) {
         Ok(filled) => filled,
-        Err(e) => {
-            if e.kind() == ErrorKind::NotFound {
-                return Filled::Bytes(0);
-            }
-            Filled::Failed(number_of(&e))
-        }
+        Err(e) if e.kind() == ErrorKind::NotFound => Filled::Bytes(0),
+        Err(e) => Filled::Failed(number_of(&e)),
     }
 }
 

@@ -47,21 +47,13 @@ pub fn read_whole<F: Read>(file: &mut F, buf: &mut [u8]) -> Filled {
     Filled::Bytes(end)
 }
 
-fn copy_state(room: &[u8; ROOM], state: &mut [u8; STATE]) {
-    let mut i = 0;
-    while i < STATE {
-        state[i] = room[i];
-        i += 1;
-    }
-}
-
 // A file of so many bytes is a state's, or has another length.
 #[tactic(auto, using(std::proofs::lemmas::Bool::Decides::nat_tests))]
 fn taken(n: usize, room: &[u8; ROOM], state: &mut [u8; STATE]) -> Loaded
     ensures { (result ≡ of_length n) × Kept result state.old state.new }
 {
     if n == STATE {
-        copy_state(room, state);
+        state.copy_from_slice(&room[..STATE]);
         return Loaded::Whole;
     }
     Loaded::Wrong
@@ -81,35 +73,29 @@ pub fn load(rt: &impl Files, path: &[u8], state: &mut [u8; STATE]) -> Loaded
     match filled_from(rt, path, &mut room) {
         Ok(Filled::Bytes(n)) => taken(n, &room, state),
         Ok(Filled::Failed(why)) => Loaded::Unread(why),
-        Err(e) => {
-            if e.kind() == ErrorKind::NotFound {
-                return Loaded::Missing;
-            }
-            Loaded::Unread(number_of(&e))
-        }
+        Err(e) if e.kind() == ErrorKind::NotFound => Loaded::Missing,
+        Err(e) => Loaded::Unread(number_of(&e)),
     }
 }
 
 pub fn equal(a: &[u8; STATE], b: &[u8; STATE]) -> bool {
-    check::same(a, b)
+    *a == *b
 }
 
 // Whether the file holds the state still. No file counts as a box that is issued, all zero.
 pub fn same(rt: &impl Files, path: &[u8], state: &[u8; STATE]) -> bool {
     let mut held = [0u8; STATE];
     match load(rt, path, &mut held) {
-        Loaded::Missing => equal(&held, state),
-        Loaded::Whole => equal(&held, state),
-        Loaded::Wrong => false,
-        Loaded::Unread(_) => false,
+        Loaded::Missing | Loaded::Whole => equal(&held, state),
+        Loaded::Wrong | Loaded::Unread(_) => false,
     }
 }
 
-// 0, or the system's number for what failed.
-pub fn status_of(done: std::io::Result<()>) -> i32 {
+// Done, or the system's number for what failed.
+pub fn status_of(done: std::io::Result<()>) -> Result<(), i32> {
     match done {
-        Ok(()) => 0,
-        Err(e) => number_of(&e),
+        Ok(()) => Ok(()),
+        Err(e) => Err(number_of(&e)),
     }
 }
 
@@ -118,20 +104,19 @@ fn written<F: Write + OpenFile>(file: &mut F, bytes: &[u8]) -> std::io::Result<(
     file.sync_all()
 }
 
-// Writes the bytes to the open file and brings them to its device: 0, or the system's number for what failed. Then the file is closed; what the
-// system says of that alone is not told, since the bytes are there.
-pub fn write_synced<F: Write + OpenFile + Drop>(file: F, bytes: &[u8]) -> i32 {
+// Writes the bytes to the open file and brings them to its device. Then the file is closed; what the system says of that alone is not told,
+// since the bytes are there.
+pub fn write_synced<F: Write + OpenFile + Drop>(file: F, bytes: &[u8]) -> Result<(), i32> {
     let mut to = file;
     status_of(written(&mut to, bytes))
 }
 
 fn sync_named(rt: &impl Files, folder: &[u8]) -> std::io::Result<()> {
-    let opened = open_read(rt, folder)?;
-    opened.sync_all()
+    open_read(rt, folder)?.sync_all()
 }
 
-// Brings the names in the path's folder to its device: 0, or the system's number for what failed.
-pub fn sync_folder(rt: &impl Files, path: &[u8]) -> i32 {
+// Brings the names in the path's folder to its device.
+pub fn sync_folder(rt: &impl Files, path: &[u8]) -> Result<(), i32> {
     let n = folder_length(path);
     if n == 0 {
         return status_of(sync_named(rt, b"."));

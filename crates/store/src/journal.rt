@@ -1,7 +1,7 @@
 // The journal beside a box: a line `SUM ANSWER: GIVEN` for each accepted call that changed the state. SUM is SHA-256, in hexadecimal
 // digits, of the sum of the line before (64 zeros before the first), of the rest of the line with its end, and of the state after it:
 // so the last sum stands for the whole auction. Whole lines stay, but for those of a call that could not be saved and was not answered ok.
-ghost use Rattle.std.specs.Prelude.{true, ◌++◌, ◌≡◌, ◌+◌, ◌<◌, ◌≤◌, length};
+ghost use Rattle.std.specs.Prelude.{◌++◌, ◌≡◌, ◌≤◌, length};
 ghost use Rattle.sums.specs.Sum.{sha256_digits};
 
 use crate::files::{Filled, read_whole};
@@ -32,29 +32,6 @@ fn sum_of(before: &[u8; SUM], text: &[u8], state: &[u8; STATE]) -> [u8; SUM]
     sums::digits(sums::with(b, state))
 }
 
-fn sum_in(
-    bytes: &[u8],
-    from: usize,
-    to: usize,
-    before: &[u8; SUM],
-    state: &[u8; STATE],
-) -> [u8; SUM] {
-    if to <= bytes.len() {
-        if from <= to {
-            return sum_of(before, &bytes[from..to], state);
-        }
-    }
-    no_sum()
-}
-
-// A part of what was said or typed.
-fn put_part(lines: &mut [u8; ANSWER], at: usize, bytes: &[u8], n: usize) -> usize {
-    if n <= bytes.len() {
-        return put(lines, at, &bytes[0..n]);
-    }
-    at
-}
-
 // A line with the first n bytes of an answer, and the place after it.
 pub fn put_line(
     lines: &mut [u8; ANSWER],
@@ -68,11 +45,17 @@ pub fn put_line(
     // The line's own sum takes this place below.
     let a = put(lines, at, before);
     let text = put(lines, a, b" ");
-    let b = put_part(lines, text, answer, n);
+    let b = match answer.get(..n) {
+        Some(part) => put(lines, text, part),
+        None => text,
+    };
     let c = put(lines, b, b": ");
     let d = put(lines, c, given);
     let end = put(lines, d, b"\n");
-    let sum = sum_in(lines, a, end, before, state);
+    let sum = match lines.get(a..end) {
+        Some(rest) => sum_of(before, rest, state),
+        None => no_sum(),
+    };
     put(lines, at, &sum);
     end
 }
@@ -83,17 +66,11 @@ pub fn put_line(
 pub fn after_line_end(bytes: &[u8], to: usize) -> usize
     ensures { result ≤ length bytes.now }
 {
-    let mut i = to;
-    if bytes.len() < i {
-        i = bytes.len();
-    }
-    while 0 < i {
-        if bytes[i - 1] == b'\n' {
-            return i;
-        }
-        i -= 1;
-    }
-    i
+    let end = to.min(bytes.len());
+    bytes[..end]
+        .iter()
+        .rposition(|b| *b == b'\n')
+        .map_or(0, |i| i + 1)
 }
 
 // Where the line begins that ends before `end`.
@@ -106,40 +83,28 @@ fn line_before(bytes: &[u8], end: usize) -> usize
     after_line_end(bytes, end - 1)
 }
 
-fn is_line(bytes: &[u8], from: usize, to: usize) -> bool
-    ensures { result ≡ true → (from + 66 < to) × (to ≤ length bytes.now) }
-{
-    if bytes.len() < to {
-        return false;
+// The sum of the line from one place to another, and the rest of it; none where that is no line.
+fn line_in(bytes: &[u8], from: usize, to: usize) -> Option<(&[u8; SUM], &[u8])> {
+    match bytes.get(from..to) {
+        Some(line) if LEAST < line.len() => line.split_first_chunk(),
+        _ => None,
     }
-    if to < from {
-        return false;
-    }
-    LEAST < to - from
 }
 
 // The sum that a line begins with; without a line that of none.
 pub fn sum_at(bytes: &[u8], from: usize, to: usize) -> [u8; SUM] {
-    let mut sum = no_sum();
-    if !is_line(bytes, from, to) {
-        return sum;
+    match line_in(bytes, from, to) {
+        Some((sum, _)) => *sum,
+        None => no_sum(),
     }
-    let mut i = 0;
-    while i < SUM {
-        sum[i] = bytes[from + i];
-        i += 1;
-    }
-    sum
 }
 
 // Whether a line's sum is that of a state after it.
 pub fn fits(bytes: &[u8], from: usize, to: usize, before: &[u8; SUM], state: &[u8; STATE]) -> bool {
-    if !is_line(bytes, from, to) {
-        return false;
+    match line_in(bytes, from, to) {
+        Some((has, rest)) => *has == sum_of(before, rest, state),
+        None => false,
     }
-    let has = sum_at(bytes, from, to);
-    let wants = sum_in(bytes, from + SUM, to, before, state);
-    check::same(&has, &wants)
 }
 
 #[derive(Clone, Copy)]
@@ -165,8 +130,7 @@ pub struct Trace {
 }
 
 pub fn is_issued(state: &[u8; STATE]) -> bool {
-    let zeros = [0u8; STATE];
-    crate::files::equal(&zeros, state)
+    state.iter().all(|b| *b == 0)
 }
 
 fn trail_of(bytes: &[u8], last: usize, end: usize, state: &[u8; STATE]) -> Trail {
@@ -212,20 +176,6 @@ fn trace_tail<F: Seek>(file: &mut F, from: i64, bytes: &[u8], state: &[u8; STATE
     }
 }
 
-// The first n of the bytes read.
-fn trace_part<F: Seek>(
-    file: &mut F,
-    from: i64,
-    bytes: &[u8],
-    n: usize,
-    state: &[u8; STATE],
-) -> Trace {
-    if n <= bytes.len() {
-        return trace_tail(file, from, &bytes[0..n], state);
-    }
-    trace_tail(file, from, bytes, state)
-}
-
 // Goes to where the last bytes begin that are looked at: the place, or -1.
 fn to_tail<F: Seek>(file: &mut F) -> i64 {
     let from = go(file, SeekFrom::End(-65536));
@@ -239,31 +189,23 @@ fn trace_open<F: Read + Seek>(file: &mut F, state: &[u8; STATE]) -> Trace {
     let from = to_tail(file);
     let mut tail = io::large_buffer();
     match read_whole(file, &mut tail) {
-        Filled::Bytes(n) => trace_part(file, from, &tail, n, state),
+        Filled::Bytes(n) => trace_tail(file, from, &tail[..n.min(ANSWER)], state),
         Filled::Failed(why) => not_traced(Trail::Unread(why)),
     }
 }
 
 pub fn traced(rt: &impl Files, journal: &[u8], state: &[u8; STATE]) -> Trace {
     match open_read(rt, journal) {
-        Ok(opened) => {
-            let mut file = opened;
-            trace_open(&mut file, state)
-        }
-        Err(e) => {
-            if e.kind() == ErrorKind::NotFound {
-                return not_traced(Trail::None);
-            }
-            not_traced(Trail::Unread(number_of(&e)))
-        }
+        Ok(mut file) => trace_open(&mut file, state),
+        Err(e) if e.kind() == ErrorKind::NotFound => not_traced(Trail::None),
+        Err(e) => not_traced(Trail::Unread(number_of(&e))),
     }
 }
 
 // Whether a line near the journal's end leaves this state.
 fn is_left_in(bytes: &[u8], state: &[u8; STATE]) -> bool {
     let mut end = after_line_end(bytes, bytes.len());
-    let mut turns: u64 = 100000;
-    while turns > 0 {
+    for _ in 0..100000 {
         if end == 0 {
             return false;
         }
@@ -273,14 +215,6 @@ fn is_left_in(bytes: &[u8], state: &[u8; STATE]) -> bool {
             return true;
         }
         end = from;
-        turns -= 1;
-    }
-    false
-}
-
-fn is_left_in_first(bytes: &[u8], n: usize, state: &[u8; STATE]) -> bool {
-    if n <= bytes.len() {
-        return is_left_in(&bytes[0..n], state);
     }
     false
 }
@@ -295,8 +229,10 @@ fn tail_of(rt: &impl Files, journal: &[u8], tail: &mut [u8]) -> std::io::Result<
 pub fn is_left(rt: &impl Files, journal: &[u8], state: &[u8; STATE]) -> bool {
     let mut tail = io::large_buffer();
     match tail_of(rt, journal, &mut tail) {
-        Ok(Filled::Bytes(n)) => is_left_in_first(&tail, n, state),
-        Ok(Filled::Failed(_)) => false,
-        Err(_) => false,
+        Ok(Filled::Bytes(n)) => match tail.get(..n) {
+            Some(read) => is_left_in(read, state),
+            None => false,
+        },
+        _ => false,
     }
 }

@@ -1,22 +1,9 @@
 // The names of the files beside a box: its path with an ending.
-ghost use Rattle.std.specs.Prelude.{◌≡◌, ◌++◌, ◌<◌, get_or, take};
+ghost use Rattle.std.specs.Prelude.{◌≡◌, ◌++◌, ◌<◌, take};
 ghost use Rattle.io.specs.Counts.{IsPrefixLen};
 
 // The longest path that the system takes, and the 0 that ends it there.
 const PATH_MAX: usize = 4096;
-
-fn name_byte(path: &[u8], ending: &[u8], i: usize) -> u8
-    ensures { result ≡ get_or (path.now ++ ending.now) i 0 }
-{
-    if i < path.len() {
-        return path[i];
-    }
-    let k = i - path.len();
-    if k < ending.len() {
-        return ending[k];
-    }
-    0
-}
 
 // The path with the ending after it, at the start of out: its length, or 0 where there is no room for it and a 0 after it.
 fn joined(path: &[u8], ending: &[u8], out: &mut [u8]) -> usize
@@ -26,11 +13,8 @@ fn joined(path: &[u8], ending: &[u8], out: &mut [u8]) -> usize
     if out.len() <= n {
         return 0;
     }
-    let mut i = 0;
-    while i < n {
-        out[i] = name_byte(path, ending, i);
-        i += 1;
-    }
+    out[..path.len()].copy_from_slice(path);
+    out[path.len()..n].copy_from_slice(ending);
     n
 }
 
@@ -59,12 +43,5 @@ pub fn beside_numbered(path: &[u8], ending: &[u8], number: u64, out: &mut [u8; P
 pub fn folder_length(path: &[u8]) -> usize
     ensures { IsPrefixLen result path.now }
 {
-    let mut n = path.len();
-    while 0 < n {
-        if path[n - 1] == b'/' {
-            return n;
-        }
-        n -= 1;
-    }
-    n
+    path.iter().rposition(|b| *b == b'/').map_or(0, |i| i + 1)
 }

@@ -29,54 +29,26 @@ pub const EILSEQ: i32 = 84;
 
 // The system's number for an error. Of the others that std makes none comes of a call that the system took.
 pub fn number_of(e: &Error) -> i32 {
-    match e.raw_os_error() {
-        Some(why) => why,
-        None => EINVAL,
-    }
+    e.raw_os_error().unwrap_or(EINVAL)
 }
 
 pub fn number(why: i32) -> u64 {
-    if 0 < why {
-        return why as u64;
-    }
-    0
-}
-
-// The reasons that a disk gives.
-fn put_disk_reason(out: &mut [u8; ANSWER], at: usize, why: i32) -> usize {
-    if why == ENOSPC {
-        return put(out, at, b"the disk is full");
-    }
-    if why == EFBIG {
-        return put(out, at, b"the file would be larger than the system allows");
-    }
-    if why == EROFS {
-        return put(out, at, b"the disk is read-only");
-    }
-    if why == EIO {
-        return put(out, at, b"the device fails");
-    }
-    if why == EILSEQ {
-        return put(out, at, b"its name is not UTF-8");
-    }
-    put_named(out, at, b"error number ", number(why))
+    u64::try_from(why).unwrap_or(0)
 }
 
 pub fn put_reason(out: &mut [u8; ANSWER], at: usize, why: i32) -> usize {
-    if why == EACCES {
-        return put(out, at, b"no permission");
+    match why {
+        EACCES => put(out, at, b"no permission"),
+        ENOENT => put(out, at, b"its folder is missing"),
+        EISDIR => put(out, at, b"it is a folder"),
+        ENOTDIR => put(out, at, b"a part of its name is no folder"),
+        ENAMETOOLONG => put(out, at, b"its name is too long"),
+        // The reasons that a disk gives.
+        ENOSPC => put(out, at, b"the disk is full"),
+        EFBIG => put(out, at, b"the file would be larger than the system allows"),
+        EROFS => put(out, at, b"the disk is read-only"),
+        EIO => put(out, at, b"the device fails"),
+        EILSEQ => put(out, at, b"its name is not UTF-8"),
+        _ => put_named(out, at, b"error number ", number(why)),
     }
-    if why == ENOENT {
-        return put(out, at, b"its folder is missing");
-    }
-    if why == EISDIR {
-        return put(out, at, b"it is a folder");
-    }
-    if why == ENOTDIR {
-        return put(out, at, b"a part of its name is no folder");
-    }
-    if why == ENAMETOOLONG {
-        return put(out, at, b"its name is too long");
-    }
-    put_disk_reason(out, at, why)
 }

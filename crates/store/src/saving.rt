@@ -9,7 +9,7 @@ use crate::system::{Numbered, create, go, named, open_update, rename, unlink};
 use layout::STATE;
 use look::Seen;
 use std::fs::{File, OpenFile, Permissions};
-use std::io::{ErrorKind, SeekFrom, Write};
+use std::io::{ErrorKind, SeekFrom};
 use std::os::unix::fs::{PermissionsExt, fchown};
 use std::process::id;
 use std::rt::Files;
@@ -30,7 +30,6 @@ pub enum Act {
 // Where saving stopped.
 #[derive(Clone, Copy)]
 pub enum Stage {
-    Done,
     LongName,
     // Another desk is saving, or was cut off while it did.
     Busy,
@@ -52,20 +51,13 @@ pub enum Stage {
 
 // The stage, and the system's number for the reason.
 #[derive(Clone, Copy)]
-pub struct Saved {
+pub struct Stopped {
     pub stage: Stage,
     pub why: i32,
 }
 
-fn stopped(stage: Stage, why: i32) -> Saved {
-    Saved { stage, why }
-}
-
-fn done() -> Saved {
-    Saved {
-        stage: Stage::Done,
-        why: 0,
-    }
+pub fn stop_at(stage: Stage, why: i32) -> Stopped {
+    Stopped { stage, why }
 }
 
 // ---- New files
@@ -96,21 +88,20 @@ fn place_by(
     place: &[u8],
     bytes: &[u8],
     seen: Seen,
-) -> Saved {
+) -> Result<(), Stopped> {
     let file = match make(rt, name, seen) {
         Ok(file) => file,
-        Err(e) => return stopped(Stage::NotMade, number_of(&e)),
+        Err(e) => return Err(stop_at(Stage::NotMade, number_of(&e))),
     };
-    let why = write_synced(file, bytes);
-    if why != 0 {
+    if let Err(why) = write_synced(file, bytes) {
         let _ = unlink(rt, name);
-        return stopped(Stage::NotWritten, why);
+        return Err(stop_at(Stage::NotWritten, why));
     }
     if let Err(e) = rename(rt, name, place) {
         let _ = unlink(rt, name);
-        return stopped(Stage::NotPlaced, number_of(&e));
+        return Err(stop_at(Stage::NotPlaced, number_of(&e)));
     }
-    done()
+    Ok(())
 }
 
 fn process(rt: &impl Numbered) -> u64 {
@@ -123,21 +114,13 @@ fn place<R: Files<File = File> + Numbered>(
     place: &[u8],
     bytes: &[u8],
     seen: Seen,
-) -> Saved {
+) -> Result<(), Stopped> {
     let mut name = io::buffer();
     let n = beside_numbered(path, b".new.", process(rt), &mut name);
     if n == 0 {
-        return stopped(Stage::LongName, ENAMETOOLONG);
+        return Err(stop_at(Stage::LongName, ENAMETOOLONG));
     }
     place_by(rt, &name[..n], place, bytes, seen)
-}
-
-fn is_done(saved: Saved) -> bool {
-    let stage = saved.stage;
-    match stage {
-        Stage::Done => true,
-        _ => false,
-    }
 }
 
 // ---- The copy before what cannot be undone
@@ -158,16 +141,9 @@ fn make_copy<R: Files<File = File> + Numbered>(
     before: &[u8],
     state: &[u8; STATE],
     seen: Seen,
-) -> Saved {
-    let placed = place(rt, path, before, state, seen);
-    if !is_done(placed) {
-        return stopped(Stage::Copy, placed.why);
-    }
-    let why = sync_folder(rt, path);
-    if why != 0 {
-        return stopped(Stage::Copy, why);
-    }
-    done()
+) -> Result<(), Stopped> {
+    place(rt, path, before, state, seen).map_err(|e| stop_at(Stage::Copy, e.why))?;
+    sync_folder(rt, path).map_err(|why| stop_at(Stage::Copy, why))
 }
 
 fn prepare<R: Files<File = File> + Numbered>(
@@ -177,63 +153,43 @@ fn prepare<R: Files<File = File> + Numbered>(
     before: &[u8],
     state: &[u8; STATE],
     seen: Seen,
-) -> Saved {
+) -> Result<(), Stopped> {
     forget_same(rt, before, state);
     match act {
-        Act::Plain => done(),
-        Act::Undo => done(),
-        Act::Opening => done(),
-        Act::Calculation => make_copy(rt, path, before, state, seen),
-        Act::Return => make_copy(rt, path, before, state, seen),
+        Act::Plain | Act::Undo | Act::Opening => Ok(()),
+        Act::Calculation | Act::Return => make_copy(rt, path, before, state, seen),
     }
 }
 
 // ---- The journal's line
 
-#[derive(Clone, Copy)]
-enum Aside {
-    Done,
-    Taken,
-    // With the system's number for the reason.
-    Failed(i32),
-}
-
-// The name is made before it is used, so that no file is ever lost to it.
-fn aside_as(rt: &impl Files, journal: &[u8], n: u64) -> Aside {
+// Whether the number was free, or the system's number for what failed. No file is ever lost to the name, which is made before it is used.
+fn aside_as(rt: &impl Files, journal: &[u8], n: u64) -> Result<bool, i32> {
     let mut name = io::buffer();
     let k = beside_numbered(journal, b".", n, &mut name);
     if k == 0 {
-        return Aside::Failed(ENAMETOOLONG);
+        return Err(ENAMETOOLONG);
     }
     match create(rt, &name[..k]) {
         Ok(file) => drop(file),
-        Err(e) => {
-            if e.kind() == ErrorKind::AlreadyExists {
-                return Aside::Taken;
-            }
-            return Aside::Failed(number_of(&e));
-        }
+        Err(e) if e.kind() == ErrorKind::AlreadyExists => return Ok(false),
+        Err(e) => return Err(number_of(&e)),
     }
     if let Err(e) = rename(rt, journal, &name[..k]) {
         let _ = unlink(rt, &name[..k]);
-        return Aside::Failed(number_of(&e));
+        return Err(number_of(&e));
     }
-    Aside::Done
+    Ok(true)
 }
 
-// A journal that is closed, or another box's, is kept under the first number that is free: BOX.journal.1, and so on. 0, or the system's
-// number for what failed.
-fn set_aside(rt: &impl Files, journal: &[u8]) -> i32 {
-    let mut n = 1;
-    while n < 100000 {
-        match aside_as(rt, journal, n) {
-            Aside::Done => return 0,
-            Aside::Taken => {}
-            Aside::Failed(why) => return why,
+// A journal that is closed, or another box's, is kept under the first number that is free: BOX.journal.1, and so on.
+fn set_aside(rt: &impl Files, journal: &[u8]) -> Result<(), i32> {
+    for n in 1..100000 {
+        if aside_as(rt, journal, n)? {
+            return Ok(());
         }
-        n += 1;
     }
-    EEXIST
+    Err(EEXIST)
 }
 
 // Whether the journal of that number was closed by a return from a state.
@@ -248,37 +204,19 @@ fn is_closed_from(
     let k = beside_numbered(journal, b".", n, &mut name);
     let at_end = traced(rt, &name[..k], state);
     let at_copy = traced(rt, &name[..k], copy);
-    let end = at_end.trail;
-    let before = at_copy.trail;
-    if let Trail::Goes = end {
-        if let Trail::Ahead = before {
-            return true;
-        }
-    }
-    false
-}
-
-// The number of the journal that was closed so, or 0.
-fn number_closed(rt: &impl Files, journal: &[u8], state: &[u8; STATE], copy: &[u8; STATE]) -> u64 {
-    let mut n = 1;
-    while n < 1000 {
-        if is_closed_from(rt, journal, n, state, copy) {
-            return n;
-        }
-        n += 1;
-    }
-    0
+    matches!(at_end.trail, Trail::Goes) & matches!(at_copy.trail, Trail::Ahead)
 }
 
 // The journal that was closed by the return from a state goes on.
 fn bring_back(rt: &impl Files, journal: &[u8], state: &[u8; STATE], copy: &[u8; STATE]) -> bool {
-    let n = number_closed(rt, journal, state, copy);
-    let mut name = io::buffer();
-    let k = beside_numbered(journal, b".", n, &mut name);
-    if n == 0 {
-        return false;
+    for n in 1..1000 {
+        if is_closed_from(rt, journal, n, state, copy) {
+            let mut name = io::buffer();
+            let k = beside_numbered(journal, b".", n, &mut name);
+            return rename(rt, &name[..k], journal).is_ok();
+        }
     }
-    rename(rt, &name[..k], journal).is_ok()
+    false
 }
 
 // Where lines go: into a new journal, or after the last whole line of one that is there.
@@ -288,23 +226,19 @@ struct Spot {
     end: i64,
 }
 
-// Takes a file away: 0, also where there is none, or the system's number for what failed.
-fn removed(rt: &impl Files, name: &[u8]) -> i32 {
+// Takes a file away, where there is one.
+fn removed(rt: &impl Files, name: &[u8]) -> Result<(), i32> {
     match unlink(rt, name) {
-        Ok(()) => 0,
-        Err(e) => {
-            if e.kind() == ErrorKind::NotFound {
-                return 0;
-            }
-            number_of(&e)
-        }
+        Ok(()) => Ok(()),
+        Err(e) if e.kind() == ErrorKind::NotFound => Ok(()),
+        Err(e) => Err(number_of(&e)),
     }
 }
 
 // Lines of a call that could not be saved go out again: nothing was said of it.
 fn take_back(rt: &impl Files, journal: &[u8], spot: Spot) -> bool {
     if spot.fresh {
-        return removed(rt, journal) == 0;
+        return removed(rt, journal).is_ok();
     }
     match open_update(rt, journal) {
         Ok(file) => {
@@ -316,44 +250,29 @@ fn take_back(rt: &impl Files, journal: &[u8], spot: Spot) -> bool {
     }
 }
 
-// The first n bytes of the lines.
-fn write_part<F: Write + OpenFile + Drop>(file: F, lines: &[u8], n: usize) -> i32 {
-    if n <= lines.len() {
-        return write_synced(file, &lines[0..n]);
-    }
-    write_synced(file, lines)
-}
-
 fn write_fresh(
     rt: &impl Files<File = File>,
     path: &[u8],
     journal: &[u8],
-    lines: &[u8; ANSWER],
-    n: usize,
+    lines: &[u8],
     seen: Seen,
-) -> i32 {
+) -> Result<(), i32> {
     let file = match make(rt, journal, seen) {
         Ok(file) => file,
-        Err(e) => return number_of(&e),
+        Err(e) => return Err(number_of(&e)),
     };
-    let why = write_part(file, lines, n);
-    if why != 0 {
-        return why;
-    }
+    write_synced(file, lines)?;
     sync_folder(rt, path)
 }
 
-fn write_after(rt: &impl Files, journal: &[u8], end: i64, lines: &[u8; ANSWER], n: usize) -> i32 {
+fn write_after(rt: &impl Files, journal: &[u8], end: i64, lines: &[u8]) -> Result<(), i32> {
     let mut file = match open_update(rt, journal) {
         Ok(file) => file,
-        Err(e) => return number_of(&e),
+        Err(e) => return Err(number_of(&e)),
     };
-    let why = status_of(file.set_len(end.cast_unsigned()));
-    if why != 0 {
-        return why;
-    }
+    status_of(file.set_len(end.cast_unsigned()))?;
     go(&mut file, SeekFrom::Start(end.cast_unsigned()));
-    write_part(file, lines, n)
+    write_synced(file, lines)
 }
 
 fn write_lines(
@@ -361,22 +280,21 @@ fn write_lines(
     path: &[u8],
     journal: &[u8],
     spot: Spot,
-    lines: &[u8; ANSWER],
-    n: usize,
+    lines: &[u8],
     seen: Seen,
-) -> Saved {
-    let why = if spot.fresh {
-        write_fresh(rt, path, journal, lines, n, seen)
+) -> Result<(), Stopped> {
+    let written = if spot.fresh {
+        write_fresh(rt, path, journal, lines, seen)
     } else {
-        write_after(rt, journal, spot.end, lines, n)
+        write_after(rt, journal, spot.end, lines)
     };
-    if why == 0 {
-        return done();
-    }
+    let Err(why) = written else {
+        return Ok(());
+    };
     if take_back(rt, journal, spot) {
-        return stopped(Stage::Journal, why);
+        return Err(stop_at(Stage::Journal, why));
     }
-    stopped(Stage::Ahead, why)
+    Err(stop_at(Stage::Ahead, why))
 }
 
 // How the journal ends that this call goes into. The journal of an auction whose return is undone goes on.
@@ -388,12 +306,9 @@ fn traced_for(
     work: &[u8; STATE],
 ) -> Trace {
     let found = traced(rt, journal, state);
-    let trail = found.trail;
-    if let Act::Undo = act {
-        if let Trail::None = trail {
-            if bring_back(rt, journal, state, work) {
-                return traced(rt, journal, state);
-            }
+    if matches!(act, Act::Undo) && matches!(found.trail, Trail::None) {
+        if bring_back(rt, journal, state, work) {
+            return traced(rt, journal, state);
         }
     }
     found
@@ -412,20 +327,11 @@ fn is_known(rt: &impl Files, act: Act, trail: Trail, journal: &[u8], work: &[u8;
 
 // Whether the call begins a journal: an opening does, and a call on a box that has none of its own.
 fn begins(act: Act, trail: Trail) -> bool {
-    if let Act::Opening = act {
-        return true;
-    }
-    match trail {
-        Trail::None => true,
-        Trail::Goes => false,
-        Trail::Ahead => false,
-        Trail::Other => true,
-        Trail::Unread(_) => false,
-    }
+    matches!(act, Act::Opening) | matches!(trail, Trail::None | Trail::Other)
 }
 
-// A journal that another begins beside is set aside; of one without a whole line nothing is kept. 0, or the system's number for what failed.
-fn cleared(rt: &impl Files, trail: Trail, journal: &[u8]) -> i32 {
+// A journal that another begins beside is set aside; of one without a whole line nothing is kept.
+fn cleared(rt: &impl Files, trail: Trail, journal: &[u8]) -> Result<(), i32> {
     if let Trail::None = trail {
         return removed(rt, journal);
     }
@@ -476,23 +382,7 @@ fn sum_after(lines: &[u8; ANSWER], n: usize, sum: [u8; SUM]) -> [u8; SUM] {
     sum_at(lines, 0, n)
 }
 
-// Where the call's line stands, or why it does not.
-#[derive(Clone, Copy)]
-struct Logged {
-    saved: Saved,
-    spot: Spot,
-}
-
-fn not_logged(stage: Stage, why: i32) -> Logged {
-    Logged {
-        saved: Saved { stage, why },
-        spot: Spot {
-            fresh: false,
-            end: 0,
-        },
-    }
-}
-
+// Where the call's line stands.
 fn log(
     rt: &impl Files<File = File>,
     path: &[u8],
@@ -504,22 +394,19 @@ fn log(
     state: &[u8; STATE],
     work: &[u8; STATE],
     seen: Seen,
-) -> Logged {
+) -> Result<Spot, Stopped> {
     let found = traced_for(rt, act, journal, state, work);
     let trail = found.trail;
     if let Trail::Unread(why) = trail {
-        return not_logged(Stage::Journal, why);
+        return Err(stop_at(Stage::Journal, why));
     }
     if !is_known(rt, act, trail, journal, work) {
-        return not_logged(Stage::Foreign, 0);
+        return Err(stop_at(Stage::Foreign, 0));
     }
     let fresh = begins(act, trail);
     let mut sum = found.sum;
     if fresh {
-        let why = cleared(rt, trail, journal);
-        if why != 0 {
-            return not_logged(Stage::Journal, why);
-        }
+        cleared(rt, trail, journal).map_err(|why| stop_at(Stage::Journal, why))?;
         sum = no_sum();
     }
     let mut lines = io::large_buffer();
@@ -530,8 +417,8 @@ fn log(
         fresh,
         end: found.end,
     };
-    let saved = write_lines(rt, path, journal, spot, &lines, end, seen);
-    Logged { saved, spot }
+    write_lines(rt, path, journal, spot, &lines[..end.min(ANSWER)], seen)?;
+    Ok(spot)
 }
 
 // ---- The names of bidders and products
@@ -552,43 +439,34 @@ pub fn save_names<R: Files<File = File> + Numbered>(rt: &R, path: &[u8], bytes: 
     if n == 0 {
         return ENAMETOOLONG;
     }
-    if bytes.len() == 0 {
+    if bytes.is_empty() {
         drop_names(rt, path);
-        return sync_folder(rt, path);
+    } else if let Err(e) = place(rt, path, &names[..n], bytes, seen(rt, path)) {
+        return e.why;
     }
-    let placed = place(rt, path, &names[..n], bytes, seen(rt, path));
-    if !is_done(placed) {
-        return placed.why;
+    match sync_folder(rt, path) {
+        Ok(()) => 0,
+        Err(why) => why,
     }
-    sync_folder(rt, path)
 }
 
 // ---- All of it
 
-fn finish(rt: &impl Files, act: Act, path: &[u8], before: &[u8], journal: &[u8]) -> Saved {
-    let mut why = sync_folder(rt, path);
-    if why == 0 {
-        match act {
-            Act::Plain => return done(),
-            Act::Calculation => return done(),
-            Act::Return => {
-                set_aside(rt, journal);
-                drop_names(rt, path);
-            }
-            // What was kept of an earlier auction ends with the next, and a copy that was put back is used up.
-            Act::Opening => {
-                let _ = unlink(rt, before);
-            }
-            Act::Undo => {
-                let _ = unlink(rt, before);
-            }
+// Closes or removes what the call is the end of.
+fn close(rt: &impl Files, act: Act, path: &[u8], before: &[u8], journal: &[u8]) -> Result<(), i32> {
+    sync_folder(rt, path)?;
+    match act {
+        Act::Plain | Act::Calculation => return Ok(()),
+        Act::Return => {
+            let _ = set_aside(rt, journal);
+            drop_names(rt, path);
         }
-        why = sync_folder(rt, path);
+        // What was kept of an earlier auction ends with the next, and a copy that was put back is used up.
+        Act::Opening | Act::Undo => {
+            let _ = unlink(rt, before);
+        }
     }
-    if why == 0 {
-        return done();
-    }
-    stopped(Stage::Unsure, why)
+    sync_folder(rt, path)
 }
 
 // What the system says of the box.
@@ -621,47 +499,34 @@ fn save_held<R: Files<File = File> + Numbered>(
     n: usize,
     state: &[u8; STATE],
     work: &[u8; STATE],
-) -> Saved {
+) -> Result<(), Stopped> {
     if !same(rt, path, state) {
-        return stopped(Stage::Changed, 0);
+        return Err(stop_at(Stage::Changed, 0));
     }
     let seen = seen(rt, path);
     if is_read_only(rt, path, seen) {
-        return stopped(Stage::ReadOnly, 0);
+        return Err(stop_at(Stage::ReadOnly, 0));
     }
-    let ready = prepare(rt, act, path, before, state, seen);
-    if !is_done(ready) {
-        return ready;
+    prepare(rt, act, path, before, state, seen)?;
+    let spot = log(rt, path, journal, act, given, answer, n, state, work, seen)?;
+    let Err(failed) = place(rt, path, path, work, seen) else {
+        return close(rt, act, path, before, journal).map_err(|why| stop_at(Stage::Unsure, why));
+    };
+    if take_back(rt, journal, spot) {
+        return Err(failed);
     }
-    let logged = log(rt, path, journal, act, given, answer, n, state, work, seen);
-    let saved = logged.saved;
-    if !is_done(saved) {
-        return saved;
-    }
-    let placed = place(rt, path, path, work, seen);
-    if is_done(placed) {
-        return finish(rt, act, path, before, journal);
-    }
-    if take_back(rt, journal, logged.spot) {
-        return placed;
-    }
-    stopped(Stage::Ahead, placed.why)
+    Err(stop_at(Stage::Ahead, failed.why))
 }
 
 // Whether no other desk saves: its own file says so, and which process made it. Another's is never removed.
-fn hold<R: Files + Numbered>(rt: &R, saving: &[u8]) -> Saved {
+fn hold<R: Files + Numbered>(rt: &R, saving: &[u8]) -> Result<(), Stopped> {
     match create(rt, saving) {
-        Ok(made) => {
-            let mut file = made;
+        Ok(mut file) => {
             write_number(&mut file, process(rt));
-            done()
+            Ok(())
         }
-        Err(e) => {
-            if e.kind() == ErrorKind::AlreadyExists {
-                return stopped(Stage::Busy, 0);
-            }
-            stopped(Stage::NotMade, number_of(&e))
-        }
+        Err(e) if e.kind() == ErrorKind::AlreadyExists => Err(stop_at(Stage::Busy, 0)),
+        Err(e) => Err(stop_at(Stage::NotMade, number_of(&e))),
     }
 }
 
@@ -674,7 +539,7 @@ pub fn save<R: Files<File = File> + Numbered>(
     n: usize,
     state: &[u8; STATE],
     work: &[u8; STATE],
-) -> Saved {
+) -> Result<(), Stopped> {
     let mut saving = io::buffer();
     let mut before = io::buffer();
     let mut journal = io::buffer();
@@ -682,12 +547,9 @@ pub fn save<R: Files<File = File> + Numbered>(
     let b = beside(path, b".before", &mut before);
     let j = beside(path, b".journal", &mut journal);
     if (s == 0) | (b == 0) | (j == 0) {
-        return stopped(Stage::LongName, ENAMETOOLONG);
+        return Err(stop_at(Stage::LongName, ENAMETOOLONG));
     }
-    let held = hold(rt, &saving[..s]);
-    if !is_done(held) {
-        return held;
-    }
+    hold(rt, &saving[..s])?;
     let saved = save_held(
         rt,
         path,

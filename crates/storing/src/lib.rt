@@ -127,11 +127,9 @@ pub fn slot(s: &mut [u8], b: usize, lines: [Line; 8])
     ensures { (a : Auction) → length a.cards.lines ≡ 256 → s.old ≡ stored a → s.new ≡ stored (with_slot a b lines) }
 {
     let from = b * 8 * layout::LINE + layout::BIDS;
-    let mut p: usize = 0;
-    while p < 8 {
+    for p in 0..8 {
         let l = lines[p];
         line(s, p * layout::LINE + from, l);
-        p += 1;
     }
 }
 
@@ -139,11 +137,9 @@ pub fn no_lines(s: &mut [u8])
     requires { Long s.old }
     ensures { Writes s.old s.new (λ a. without_lines a) }
 {
-    let mut k: usize = 0;
-    while k < 256 {
+    for k in 0..256 {
         let l = Line::none();
         line(s, k * layout::LINE + layout::BIDS, l);
-        k += 1;
     }
 }
 
@@ -154,11 +150,9 @@ pub fn free(s: &mut [u8], free: [Tranches; 32])
     requires { Long s.old }
     ensures { Writes s.old s.new (λ a. with_free a (tranches_at free)) }
 {
-    let mut b: usize = 0;
-    while b < 32 {
+    for b in 0..32 {
         let f = free[b];
         two(s, b * layout::SEAT + layout::FREE, f.0);
-        b += 1;
     }
 }
 
@@ -167,15 +161,13 @@ pub fn prices(s: &mut [u8], price: [Quote; 8], before: [Quote; 8])
     requires { Long s.old }
     ensures { Writes s.old s.new (λ a. with_prices a (amount_at price) (amount_at before)) }
 {
-    let mut p: usize = 0;
-    while p < 8 {
+    for p in 0..8 {
         let x = price[p];
         let y = before[p];
         let going = x.price;
         let last = y.price;
         three(s, p * layout::LANE + layout::PRICE, going.amount());
         three(s, p * layout::LANE + layout::BEFORE, last.amount());
-        p += 1;
     }
 }
 
@@ -184,10 +176,8 @@ pub fn marks(s: &mut [u8], marks: [u8; 8])
     requires { Long s.old }
     ensures { Writes s.old s.new (λ a. with_marks a (λ p. get_or marks p 0)) }
 {
-    let mut p: usize = 0;
-    while p < 8 {
+    for p in 0..8 {
         byte(s, p * layout::LANE + layout::MARK, marks[p]);
-        p += 1;
     }
 }
 
@@ -204,13 +194,11 @@ pub fn limits(s: &mut [u8], targets: [Tranches; 8], caps: [Tranches; 8])
     requires { Long s.old }
     ensures { Writes s.old s.new (λ a. with_limits a (tranches_at targets) (tranches_at caps)) }
 {
-    let mut p: usize = 0;
-    while p < 8 {
+    for p in 0..8 {
         let x = targets[p];
         let y = caps[p];
         one(s, p * layout::LANE + layout::TARGET, x.0);
         one(s, p * layout::LANE + layout::CAP, y.0);
-        p += 1;
     }
 }
 
@@ -221,11 +209,9 @@ pub fn records(s: &mut [u8], ps: &[[u32; table::WIDTH]; 256])
     requires { Long s.old }
     ensures { Writes s.old s.new (λ a. with_records a (records_in (places_in ps.now))) }
 {
-    let mut k: usize = 0;
-    while k < 256 {
+    for k in 0..256 {
         let r = table::record(ps, k);
         record(s, k * layout::RECORD + layout::RECORDS, r);
-        k += 1;
     }
 }
 
@@ -250,8 +236,7 @@ fn products(s: &mut [u8], t: Setup)
     requires { Long s.old }
     ensures { s.new ≡ each (λ p. lane_bytes (lane_at (opened t) p)) products_from product_width 8 s.old }
 {
-    let mut p: usize = 0;
-    while p < 8 {
+    for p in 0..8 {
         let v = t.item[p];
         let from = p * layout::LANE + layout::TARGET;
         one(s, from, v.target.0);
@@ -260,7 +245,6 @@ fn products(s: &mut [u8], t: Setup)
         three(s, from + 5, v.start);
         three(s, from + 8, v.start);
         byte(s, from + 11, 0);
-        p += 1;
     }
 }
 
@@ -269,13 +253,11 @@ fn bidders(s: &mut [u8], t: Setup)
     requires { Long s.old }
     ensures { s.new ≡ each (λ b. seat_bytes (seat_at (opened t) b)) bidders_from bidder_width 32 s.old }
 {
-    let mut b: usize = 0;
-    while b < 32 {
+    for b in 0..32 {
         let e = t.eligibility[b];
         let from = b * layout::SEAT + layout::INITIAL;
         two(s, from, e.0);
         two(s, from + 2, e.0);
-        b += 1;
     }
 }
 
@@ -283,13 +265,11 @@ fn rows(s: &mut [u8], d: Decrements)
     requires { Long s.old }
     ensures { s.new ≡ each (λ i. row_bytes (get_or d.row i no_row)) rows_from row_width 8 s.old }
 {
-    let mut i: usize = 0;
-    while i < 8 {
+    for i in 0..8 {
         let v = d.row[i];
         let from = i * layout::ROW + layout::PERCENT;
         two(s, from, v.percent);
         two(s, from + 2, v.decrement.0);
-        i += 1;
     }
 }
 

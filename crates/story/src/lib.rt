@@ -3,13 +3,16 @@
 // round's own; on any other product nothing is kept anew, and what is gone was deemed bid or outbid.
 #![tactic(auto)]
 
-ghost use Rattle.std.specs.Prelude.{◌<◌};
+ghost use Rattle.std.specs.Prelude.{◌≡◌, ◌<◌, true};
+ghost use Rattle.book.specs.Lent.{Lent};
 
 use layout::STATE;
 use rules::{Lot, Lots, Record, Tranches};
 
 // Whether a state's counts are those that its sections have room for, as in every state that stands.
-pub fn is_counted(s: &[u8; STATE]) -> bool {
+pub fn is_counted(s: &[u8; STATE]) -> bool
+    ensures { result ≡ true → Lent s.now }
+{
     (book::products(s) <= 8) & (book::bidders(s) <= 32) & (book::rows(s) <= 8)
 }
 
@@ -17,13 +20,7 @@ pub fn is_counted(s: &[u8; STATE]) -> bool {
 pub fn held_of(s: &[u8; STATE], p: usize) -> u32
     requires { p < 8 }
 {
-    if 8 < book::products(s) {
-        return 0;
-    }
-    if 32 < book::bidders(s) {
-        return 0;
-    }
-    if 8 < book::rows(s) {
+    if !is_counted(s) {
         return 0;
     }
     held::held(s, p)
@@ -31,13 +28,7 @@ pub fn held_of(s: &[u8; STATE], p: usize) -> u32
 
 // Total excess supply; 0 where the counts are none.
 pub fn excess_of(s: &[u8; STATE]) -> u32 {
-    if 8 < book::products(s) {
-        return 0;
-    }
-    if 32 < book::bidders(s) {
-        return 0;
-    }
-    if 8 < book::rows(s) {
+    if !is_counted(s) {
         return 0;
     }
     held::excess(s)
@@ -52,13 +43,7 @@ pub fn is_above(s: &[u8; STATE], p: usize) -> bool
 
 // Whether some product is above target. Past the products in use nothing is held in a state that stands.
 pub fn some_above(s: &[u8; STATE]) -> bool {
-    let mut above = false;
-    let mut p = 0;
-    while p < 8 {
-        above = above | is_above(s, p);
-        p += 1;
-    }
-    above
+    (0..8).any(|p| is_above(s, p))
 }
 
 // The denied switches that stand, over all bidders and products; 0 where the counts are none.
@@ -66,22 +51,11 @@ pub fn denied_of(s: &[u8; STATE]) -> u32 {
     if !is_counted(s) {
         return 0;
     }
-    let mut sum: u32 = 0;
-    let mut k: usize = 0;
-    while k < 256 {
-        let r = book::record(s, k);
-        sum += r.denied.0 as u32;
-        k += 1;
+    let mut sum = 0u32;
+    for k in 0..256 {
+        sum += book::record(s, k).denied.0 as u32;
     }
     sum
-}
-
-// a less b, and 0 where b is more.
-fn less(a: u32, b: u32) -> u32 {
-    if a <= b {
-        return 0;
-    }
-    a - b
 }
 
 // Of one bidder on one product.
@@ -134,7 +108,7 @@ fn on_ticked(bid: u32, withdrawn: Lots, after: Record) -> Moves {
         withdrawn,
         retained,
         denied: after.denied.0 as u32,
-        cancelled: less(bid, after.going.0 as u32),
+        cancelled: bid.saturating_sub(after.going.0 as u32),
         deemed: 0,
         freed: 0,
         stood: Lots::none(),
@@ -172,7 +146,7 @@ fn deemed_of(before: Record, after: Record) -> u32 {
 
 fn on_other(bid: u32, before: Record, after: Record) -> Moves {
     let deemed = deemed_of(before, after);
-    let left = less(before.denied.0 as u32, after.denied.0 as u32);
+    let left = before.denied.0.saturating_sub(after.denied.0) as u32;
     let stood = before.retained;
     let stands = after.retained;
     Moves {
@@ -180,12 +154,11 @@ fn on_other(bid: u32, before: Record, after: Record) -> Moves {
         withdrawn: Lots::none(),
         retained: Lots::none(),
         denied: 0,
-        cancelled: less(
-            std::num::wrapping_add_u32(bid, deemed),
-            after.going.0 as u32,
-        ),
+        cancelled: bid
+            .wrapping_add(deemed)
+            .saturating_sub(after.going.0 as u32),
         deemed,
-        freed: less(left, deemed),
+        freed: left.saturating_sub(deemed),
         stood,
         gone: all_gone(stood, stands),
     }

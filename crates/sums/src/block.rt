@@ -4,20 +4,13 @@ ghost use Rattle.sums.specs.Block.{word_of, scheduled, schedule_up_to, work_of, 
 
 use crate::words::{big_sigma0, big_sigma1, ch, constant, maj, plus, small_sigma0, small_sigma1};
 
-fn wide(byte: u8) -> u32
-    ensures { (result ≡ byte) × (result < 256) }
-{
-    byte as u32
-}
-
 // Word t of the block. "Within each word, the most significant bit is stored in the left-most bit position."
 fn word_of(block: &[u8; 64], t: usize) -> u32
     requires { t < 16 }
     ensures { result ≡ word_of block.now t }
 {
     let at = t * 4;
-    ((wide(block[at]) * 256 + wide(block[at + 1])) * 256 + wide(block[at + 2])) * 256
-        + wide(block[at + 3])
+    u32::from_be_bytes([block[at], block[at + 1], block[at + 2], block[at + 3]])
 }
 
 // Word t of the message schedule, of which those before it stand in w.
@@ -41,10 +34,8 @@ fn schedule(block: &[u8; 64]) -> [u32; 64]
     ensures { result ≡ schedule_up_to block.now 64 }
 {
     let mut w = [0u32; 64];
-    let mut t = 0;
-    while t < 64 {
+    for t in 0..64 {
         w[t] = scheduled(block, &w, t);
-        t += 1;
     }
     w
 }
@@ -86,10 +77,8 @@ fn rounds(start: Work, w: &[u32; 64]) -> Work
     ensures { result ≡ rounds_up_to start w.now 64 }
 {
     let mut v = start;
-    let mut t = 0;
-    while t < 64 {
+    for t in 0..64 {
         v = round(v, constant(t), w[t]);
-        t += 1;
     }
     v
 }

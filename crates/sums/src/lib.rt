@@ -48,14 +48,12 @@ pub fn with(sum: Sum, bytes: &[u8]) -> Sum
     let mut words = sum.words;
     let mut block = sum.block;
     let mut count = sum.count;
-    let mut i = 0;
-    while i < bytes.len() {
+    for byte in bytes {
         let at = (count % 64) as usize;
-        block[at] = bytes[i];
+        block[at] = *byte;
         let next = after_byte(words, &block, at);
         words = next;
-        count = std::num::wrapping_add_u64(count, 1);
-        i += 1;
+        count = count.wrapping_add(1);
     }
     Sum {
         words,
@@ -68,13 +66,7 @@ pub fn with(sum: Sum, bytes: &[u8]) -> Sum
 fn length_bytes(bits: u64) -> [u8; 8]
     ensures { result ≡ length_up_to bits 8 }
 {
-    let mut out = [0u8; 8];
-    let mut i = 0;
-    while i < 8 {
-        out[i] = ((bits >> (56 - 8 * i)) % 256) as u8;
-        i += 1;
-    }
-    out
+    bits.to_be_bytes()
 }
 
 // Section 5.1.1: the bit 1, as few zero bits as make the length 448 modulo 512, and the length in bits before that. 128 is the
@@ -104,11 +96,8 @@ fn digits_of(words: [u32; 8]) -> [u8; 64]
     ensures { result ≡ digits_up_to words 64 }
 {
     let mut out = [0u8; 64];
-    let mut i = 0;
-    while i < 64 {
-        let word = words[i / 8];
-        out[i] = hex((word >> (28 - 4 * (i % 8))) % 16);
-        i += 1;
+    for i in 0..64 {
+        out[i] = hex((words[i / 8] >> (28 - 4 * (i % 8))) % 16);
     }
     out
 }

@@ -23,14 +23,14 @@ pub fn constant(t: usize) -> u32
 pub fn plus(x: u32, y: u32) -> u32
     ensures { result ≡ plus x y }
 {
-    std::num::wrapping_add_u32(x, y)
+    x.wrapping_add(y)
 }
 
 pub fn rotr(x: u32, n: u32) -> u32
     requires { Turn n }
     ensures { result ≡ rotr x n }
 {
-    (x >> n) | (x << (32 - n))
+    x.rotate_right(n)
 }
 
 pub fn ch(x: u32, y: u32, z: u32) -> u32

@@ -8,8 +8,7 @@ use borrow.Author.Tests.{eqb-true, eqb-false, ne_eqb}
 use lib.ListN.{get_or, set, length, length-set}
 use lib.Seq.{get_or-set_same, get_or-set_other}
 use lib.Dec.{eqb}
-use Rattle.rules.specs.declared.Pick.{Pick}
-use Rattle.rules.specs.declared.Pick.TheVariants.{At, Nobody}
+use Rattle.std.specs.Prelude.{Option, None, Some}
 use Rattle.rules.specs.declared.Lots.{Lots}
 use Rattle.rules.specs.declared.Place.{Place}
 use Rattle.rules.specs.Count.{first_up_to, never, sum_up_to}
@@ -26,17 +25,17 @@ pub first_ext : (f g : ℕ → Bool) (n : ℕ) → ((i : ℕ) → i < n → f i 
 first_ext f g n h = best_ext f g never never n h (λ i j _ _. refl)
 
 -- none passes before the first
-module _ (has : ℕ → Bool) (m i : ℕ) (e : first_up_to has m ≡ At i) where
-  before_by : (q : Pick) → first_up_to has i ≡ q → q ≡ Nobody
-  before_by Nobody f = refl
-  before_by (At j) f =
+module _ (has : ℕ → Bool) (m i : ℕ) (e : first_up_to has m ≡ Some i) where
+  before_by : (q : Option ℕ) → first_up_to has i ≡ q → q ≡ None
+  before_by None f = refl
+  before_by (Some j) f =
       let l = (best_found has never m i e).0 in
       let s = sym e ∙ first_stays has i j m f (omega arith) in
       let z : i ≡ j = cc in
       let w = (best_found has never i j f).0 in
       absurd (let x : ⊥ = omega arith in x)
 
-  pub first_before : first_up_to has i ≡ Nobody
+  pub first_before : first_up_to has i ≡ None
   first_before = before_by (first_up_to has i) refl
 
 -- ---- a place stored anew

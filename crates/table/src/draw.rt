@@ -1,7 +1,7 @@
 // The draw order: "a list of all bidders, each once, as one byte each". As many entries as bidders, and every bidder found among
 // them: so none stands twice.
-ghost use Rattle.std.specs.Prelude.{◌≡◌, ◌≤◌, ◌<◌, ltb, eqb, length};
-ghost use Rattle.rules.specs.Count.{sum_up_to, first_up_to, is_at};
+ghost use Rattle.std.specs.Prelude.{◌≡◌, ◌≤◌, ◌<◌, ltb, eqb, length, is_some};
+ghost use Rattle.rules.specs.Count.{sum_up_to, first_up_to};
 ghost use Rattle.rules.specs.Bid.{one_if};
 ghost use Rattle.rules.specs.Round.{drawn, draw_fits};
 ghost use Rattle.table.specs.Drawn.{Drawn};
@@ -17,30 +17,15 @@ pub fn is_known(entry: u8, bidders: usize) -> bool
 pub fn times_drawn(order: &[u8], b: usize) -> usize
     ensures { result ≡ sum_up_to (λ i. one_if (eqb (drawn order.now i) b)) (length order.now) }
 {
-    let mut times: usize = 0;
-    let mut i = 0;
-    while i < order.len() {
-        if b == order[i] as usize {
-            times += 1;
-        }
-        i += 1;
-    }
-    times
+    order.iter().filter(|x| **x as usize == b).count()
 }
 
 // Bidder b stands among the first entries, as many as there are bidders.
 pub fn is_drawn(order: &[u8], bidders: usize, b: usize) -> bool
     requires { bidders ≤ length order.now }
-    ensures { result ≡ is_at (first_up_to (λ i. eqb (drawn order.now i) b) bidders) }
+    ensures { result ≡ is_some (first_up_to (λ i. eqb (drawn order.now i) b) bidders) }
 {
-    let mut i = 0;
-    while i < bidders {
-        if order[i] as usize == b {
-            return true;
-        }
-        i += 1;
-    }
-    false
+    (0..bidders).any(|i| order[i] as usize == b)
 }
 
 pub fn draw_fits(order: &[u8], bidders: usize) -> bool
@@ -49,15 +34,8 @@ pub fn draw_fits(order: &[u8], bidders: usize) -> bool
     if order.len() != bidders {
         return false;
     }
-    let mut fit = true;
-    let mut all = true;
-    let mut b: usize = 0;
-    while b < bidders {
-        fit = fit & is_known(order[b], bidders);
-        all = all & is_drawn(order, bidders, b);
-        b += 1;
-    }
-    fit & all
+    let known = (0..bidders).all(|i| is_known(order[i], bidders));
+    known & (0..bidders).all(|b| is_drawn(order, bidders, b))
 }
 
 // The bidder at a place of the draw.

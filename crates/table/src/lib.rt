@@ -137,12 +137,10 @@ pub fn held_all(ps: &[[u32; WIDTH]; 256], bidders: usize) -> [u32; 8]
 {
     let n = bidders * 8;
     let mut held = [0u32; 8];
-    let mut k: usize = 0;
-    while k < n {
+    for k in 0..n {
         let h = record(ps, k).held();
         let p = k % 8;
         held[p] = held[p] + h;
-        k += 1;
     }
     held
 }

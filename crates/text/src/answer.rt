@@ -14,12 +14,9 @@ fn copy_in(src: &[u8], dst: &mut [u8], at: usize) -> usize
     requires { at + length src.now ≤ length dst.old }
     ensures { (result ≡ at + length src.now) × (dst.new ≡ paste dst.old at src.now (length src.now)) }
 {
-    let mut j = 0;
-    while j < src.len() {
-        dst[at + j] = src[j];
-        j += 1;
-    }
-    at + j
+    let to = at + src.len();
+    dst[at..to].copy_from_slice(src);
+    to
 }
 
 // Puts a text at a place, and gives the place after it; where there is no room, the place.
@@ -47,26 +44,20 @@ pub fn put_named(out: &mut [u8; ANSWER], at: usize, what: &[u8], n: u64) -> usiz
 // Bytes as two hexadecimal digits each, in lower case.
 pub fn put_hex(out: &mut [u8; ANSWER], at: usize, bytes: &[u8]) -> usize {
     let mut to = at;
-    let mut i = 0;
-    while i < bytes.len() {
+    for byte in bytes {
         let mut digits = [0u8; 16];
-        let k = io::hex(bytes[i] as u64, 2, &mut digits);
+        let k = io::hex(u64::from(*byte), 2, &mut digits);
         to = put(out, to, &digits[..k]);
-        i += 1;
     }
     to
 }
 
-fn send_part(rt: &impl Print, out: &[u8], n: usize) -> bool {
-    if n <= out.len() {
-        return write_whole(&mut std::io::writer(rt), &out[0..n]).is_ok();
-    }
-    false
-}
-
 // Writes the first n bytes that were gathered: whether all were taken.
 pub fn send(rt: &impl Print, out: &[u8; ANSWER], n: usize) -> bool {
-    send_part(rt, out, n)
+    match out.get(..n) {
+        Some(part) => write_whole(&mut std::io::writer(rt), part).is_ok(),
+        None => false,
+    }
 }
 
 // A line for the person at the desk, beside the answers; nobody is left to tell where it cannot be written.
@@ -76,12 +67,7 @@ pub fn warn(rt: &impl Aside, w: &[u8]) {
 
 // `, column N`, and the line's end. Columns are counted from 1.
 fn put_column(out: &mut [u8; ANSWER], to: usize, at: usize) -> usize {
-    let a = put_named(
-        out,
-        to,
-        b", column ",
-        std::num::wrapping_add_u64(at as u64, 1),
-    );
+    let a = put_named(out, to, b", column ", (at as u64).wrapping_add(1));
     put(out, a, b"\n")
 }
 

@@ -23,25 +23,12 @@ pub enum Hex {
 pub fn nibble(b: u8) -> u8
     ensures { (result ≡ nibble_of b) × (result ≤ 16) }
 {
-    if b < 48 {
-        return 16;
+    match b {
+        b'0'..=b'9' => b - 48,
+        b'A'..=b'F' => b - 55,
+        b'a'..=b'f' => b - 87,
+        _ => 16,
     }
-    if b <= 57 {
-        return b - 48;
-    }
-    if b < 65 {
-        return 16;
-    }
-    if b <= 70 {
-        return b - 55;
-    }
-    if b < 97 {
-        return 16;
-    }
-    if b <= 102 {
-        return b - 87;
-    }
-    16
 }
 
 // Puts the first n bytes that the digits of w make at the start of out.
@@ -49,13 +36,11 @@ fn put_bytes(w: &[u8], n: usize, out: &mut [u8])
     requires { (n * 2 ≤ length w.now) × (n ≤ length out.old) }
     ensures { out.new ≡ hex_up_to w.now n ++ drop n out.old }
 {
-    let mut i = 0;
-    while i < n {
+    for i in 0..n {
         // What is no digit counts as 0, so that nothing is asked of w.
         let high = nibble(w[i * 2]) % 16;
         let low = nibble(w[i * 2 + 1]) % 16;
         out[i] = high * 16 + low;
-        i += 1;
     }
 }
 

@@ -101,14 +101,9 @@ pub fn keep_rest(buf: &mut [u8], start: usize, full: usize, skipping: bool) -> I
             return skip_on(buf, full);
         }
     }
-    let n = full - start;
-    let mut i = 0;
-    while i < n {
-        buf[i] = buf[start + i];
-        i += 1;
-    }
+    buf.copy_within(start..full, 0);
     Input {
-        end: n,
+        end: full - start,
         skipping: false,
         done: false,
     }

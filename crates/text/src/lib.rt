@@ -55,15 +55,12 @@ pub fn run_end(s: &[u8], run: Run, at: usize) -> usize
     requires { at ≤ length s.now }
     ensures { (result ≡ run_end s.now run at (length s.now - at)) × ((at ≤ result) × (result ≤ length s.now)) }
 {
-    let mut i = at;
-    while i < s.len() {
-        if goes_on(s[i], run) {
-            i += 1;
-        } else {
+    for i in at..s.len() {
+        if !goes_on(s[i], run) {
             return i;
         }
     }
-    i
+    s.len()
 }
 
 // The next word from a cursor on; one past the end of the line counts as its end.

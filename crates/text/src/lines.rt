@@ -28,10 +28,7 @@ fn ends_line(remark: bool, second: u8, first: u8, b: u8) -> bool
 fn byte_at(w: &[u8], i: usize) -> u8
     ensures { result ≡ slice_index w.now i }
 {
-    if i < w.len() {
-        return w[i];
-    }
-    0
+    w.get(i).copied().unwrap_or(0)
 }
 
 fn is_remark(w: &[u8]) -> bool
@@ -47,17 +44,14 @@ pub fn line_end(w: &[u8]) -> usize
     let remark = is_remark(w);
     let mut second = 0;
     let mut first = 0;
-    let mut i = 0;
-    while i < w.len() {
-        let b = w[i];
-        if ends_line(remark, second, first, b) {
+    for (i, b) in w.iter().enumerate() {
+        if ends_line(remark, second, first, *b) {
             return i;
         }
         second = first;
-        first = b;
-        i += 1;
+        first = *b;
     }
-    i
+    w.len()
 }
 
 fn joined_byte(second: u8, first: u8, b: u8, next: u8) -> u8
@@ -75,14 +69,12 @@ pub fn join(w: &mut [u8])
 {
     let mut second = 0;
     let mut first = 0;
-    let mut i = 0;
-    while i < w.len() {
+    for i in 0..w.len() {
         let b = w[i];
         let next = byte_at(w, i + 1);
         w[i] = joined_byte(second, first, b, next);
         second = first;
         first = b;
-        i += 1;
     }
 }
 
@@ -98,12 +90,7 @@ pub fn control_at(line: &[u8]) -> usize
     ensures before { (k : ℕ) → k < result → control (slice_index line.now k) ≡ false }
     ensures found { result < length line.now → control (slice_index line.now result) ≡ true }
 {
-    let mut i = 0;
-    while i < line.len() {
-        if is_control(line[i]) {
-            return i;
-        }
-        i += 1;
-    }
-    i
+    line.iter()
+        .position(|b| is_control(*b))
+        .unwrap_or(line.len())
 }

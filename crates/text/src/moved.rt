@@ -61,6 +61,6 @@ const STATUS: &str = "/proc/self/fd/3";
 // The status goes to descriptor 3 where the launcher asks for it: a program ends with 0.
 pub fn put_status(rt: &impl Files, status: u8) {
     if let Ok(mut to) = OpenOptions::new().write(true).open(rt, STATUS) {
-        write_number(&mut to, status as u64);
+        write_number(&mut to, u64::from(status));
     }
 }

@@ -34,8 +34,7 @@ pub fn digit_after(n: Read, b: u8) -> Read
     }
     match n {
         Read::Value(v) => {
-            let d = (b - 48) as u64;
-            let w = v as u64 * 10 + d;
+            let w = u64::from(v) * 10 + u64::from(b - 48);
             if w <= 4294967295 {
                 Read::Value(w as u32)
             } else {
@@ -52,10 +51,8 @@ pub fn read_number(w: &[u8]) -> Read
     ensures { result ≡ read_word w.now }
 {
     let mut n = Read::Value(0);
-    let mut i = 0;
-    while i < w.len() {
-        n = digit_after(n, w[i]);
-        i += 1;
+    for b in w {
+        n = digit_after(n, *b);
     }
     n
 }

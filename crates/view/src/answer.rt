@@ -9,8 +9,8 @@ use crate::state::put_fields;
 use crate::{put_form, put_phase};
 use layout::STATE;
 use rules::{
-    Award, Awarded, Card, CardRead, GoingPrice, Line, Phase, Quote, Range, Record, Report,
-    Reported, Tranches,
+    Awarded, Bid, CardRead, GoingPrice, Line, Phase, Quote, Range, Record, Report, Reported,
+    Tranches,
 };
 use text::{ANSWER, put};
 
@@ -24,11 +24,8 @@ fn put_standing(out: &mut [u8; ANSWER], phase: Phase, range: Range, free: Tranch
 // The round that was calculated last: where bids are open, the one before.
 fn last_round(s: &[u8; STATE]) -> u16 {
     let round = book::round(s);
-    if round == 0 {
-        return 0;
-    }
     if is_open(s) {
-        return round - 1;
+        return round.saturating_sub(1);
     }
     round
 }
@@ -96,18 +93,14 @@ fn put_holdings(
     products: usize,
 ) -> usize {
     let mut to = at;
-    let mut p = 0;
-    while p < 8 {
-        if p < products {
-            to = put_holding(out, to, unit, p, prices[p], records[p]);
-        }
-        p += 1;
+    for p in 0..products.min(8) {
+        to = put_holding(out, to, unit, p, prices[p], records[p]);
     }
     to
 }
 
 // What a bidder has of all products.
-#[derive(Clone, Copy)]
+#[derive(Clone, Copy, Default)]
 struct Totals {
     going: u32,
     denied: u32,
@@ -117,26 +110,18 @@ struct Totals {
 impl Totals {
     fn with(self, r: Record) -> Totals {
         Totals {
-            going: std::num::wrapping_add_u32(self.going, r.going.0 as u32),
-            denied: std::num::wrapping_add_u32(self.denied, r.denied.0 as u32),
-            retained: std::num::wrapping_add_u32(self.retained, r.retained.total()),
+            going: self.going.wrapping_add(r.going.0 as u32),
+            denied: self.denied.wrapping_add(r.denied.0 as u32),
+            retained: self.retained.wrapping_add(r.retained.total()),
         }
     }
 }
 
 // Past the products in use a record is 0.
 fn totals_of(records: [Record; 8]) -> Totals {
-    let mut totals = Totals {
-        going: 0,
-        denied: 0,
-        retained: 0,
-    };
-    let mut p = 0;
-    while p < 8 {
-        totals = totals.with(records[p]);
-        p += 1;
-    }
-    totals
+    records
+        .iter()
+        .fold(Totals::default(), |totals, r| totals.with(*r))
 }
 
 fn put_totals(out: &mut [u8; ANSWER], at: usize, totals: Totals) -> usize {
@@ -176,11 +161,11 @@ fn put_report(
 pub fn report(out: &mut [u8; ANSWER], s: &[u8; STATE], b: usize, given: Reported) -> usize {
     let report = given.report;
     match report {
-        Report::Given { free, phase, range } => {
+        Ok(Report { free, phase, range }) => {
             let a = put_standing(out, phase, range, free);
             put_report(out, a, s, b, given, range, free)
         }
-        Report::Refused(_) => 0,
+        Err(_) => 0,
     }
 }
 
@@ -193,12 +178,8 @@ pub fn put_reported(
 ) -> usize {
     let report = given.report;
     match report {
-        Report::Given {
-            free,
-            phase: _,
-            range,
-        } => put_report(out, at, s, b, given, range, free),
-        Report::Refused(_) => at,
+        Ok(Report { free, range, .. }) => put_report(out, at, s, b, given, range, free),
+        Err(_) => at,
     }
 }
 
@@ -219,25 +200,11 @@ fn put_final(out: &mut [u8; ANSWER], at: usize, s: &[u8; STATE], p: usize, quote
 
 // The final price of each product.
 fn put_finals(out: &mut [u8; ANSWER], at: usize, s: &[u8; STATE], prices: [Quote; 8]) -> usize {
-    let products = book::products(s);
     let mut to = at;
-    let mut p = 0;
-    while p < 8 {
-        if p < products {
-            to = put_final(out, to, s, p, prices[p]);
-        }
-        p += 1;
+    for p in 0..book::products(s).min(8) {
+        to = put_final(out, to, s, p, prices[p]);
     }
     to
-}
-
-fn put_award(out: &mut [u8; ANSWER], at: usize, x: Tranches) -> usize {
-    let numbers = [x.0 as u64];
-    put_form(out, at, b" #", &numbers)
-}
-
-fn plus(a: u64, b: u64) -> u64 {
-    std::num::wrapping_add_u64(a, b)
 }
 
 // `  bidder I A0 A1 ..`, and what it is in all; bidder b on product p stands at b * 8 + p.
@@ -253,17 +220,12 @@ fn put_bidder(
     let numbers = [b as u64];
     let mut to = put_form(out, at, b"  bidder &", &numbers);
     let mut sum = 0u64;
-    let mut p = 0;
-    while p < 8 {
-        if p < products {
-            let x = all[b * 8 + p];
-            to = put_award(out, to, x);
-            sum = plus(sum, x.0 as u64);
-        }
-        p += 1;
+    for p in 0..products.min(8) {
+        let x = all[b * 8 + p].0 as u64;
+        to = put_form(out, to, b" #", &[x]);
+        sum = sum.wrapping_add(x);
     }
-    let total = [sum];
-    put_form(out, to, b"\n    in all #\n", &total)
+    put_form(out, to, b"\n    in all #\n", &[sum])
 }
 
 fn put_awards(
@@ -274,38 +236,28 @@ fn put_awards(
     products: usize,
 ) -> usize {
     let mut to = at;
-    let mut b = 0;
-    while b < 32 {
-        if b < bidders {
-            to = put_bidder(out, to, all, b, products);
-        }
-        b += 1;
+    for b in 0..bidders.min(32) {
+        to = put_bidder(out, to, all, b, products);
     }
     to
 }
 
 // `  in all N of M awarded`, over all products.
 fn put_awarded(out: &mut [u8; ANSWER], at: usize, s: &[u8; STATE]) -> usize {
-    let products = book::products(s);
     let mut awarded = 0u64;
     let mut targets = 0u64;
-    let mut p = 0;
-    while p < 8 {
-        if p < products {
-            awarded = plus(awarded, story::held_of(s, p) as u64);
-            targets = plus(targets, book::target(s, p).0 as u64);
-        }
-        p += 1;
+    for p in 0..book::products(s).min(8) {
+        awarded = awarded.wrapping_add(story::held_of(s, p) as u64);
+        targets = targets.wrapping_add(book::target(s, p).0 as u64);
     }
-    let numbers = [awarded, targets];
-    put_form(out, at, b"  in all # of # awarded\n", &numbers)
+    put_form(out, at, b"  in all # of # awarded\n", &[awarded, targets])
 }
 
 // `ok`, the final prices, and the awards; nothing where it is refused.
 pub fn result(out: &mut [u8; ANSWER], s: &[u8; STATE], given: Awarded) -> usize {
     let award = given.award;
     match award {
-        Award::Given => {
+        Ok(()) => {
             let prices = given.prices;
             let tranches = given.tranches;
             let round = [book::round(s) as u64];
@@ -316,7 +268,7 @@ pub fn result(out: &mut [u8; ANSWER], s: &[u8; STATE], given: Awarded) -> usize 
             let e = put_awards(out, d, tranches, book::bidders(s), book::products(s));
             put_awarded(out, e, s)
         }
-        Award::Refused(_) => 0,
+        Err(_) => 0,
     }
 }
 
@@ -325,12 +277,8 @@ pub fn result(out: &mut [u8; ANSWER], s: &[u8; STATE], given: Awarded) -> usize 
 // The lines of a bid, and the answer's end.
 fn put_lines(out: &mut [u8; ANSWER], at: usize, lines: [Line; 8], products: usize) -> usize {
     let mut to = at;
-    let mut p = 0;
-    while p < 8 {
-        if p < products {
-            to = put_fields(out, to, lines[p]);
-        }
-        p += 1;
+    for p in 0..products.min(8) {
+        to = put_fields(out, to, lines[p]);
     }
     put(out, to, b"\n")
 }
@@ -339,13 +287,13 @@ fn put_lines(out: &mut [u8; ANSWER], at: usize, lines: [Line; 8], products: usiz
 pub fn bid(out: &mut [u8; ANSWER], got: CardRead, products: usize) -> usize {
     let card = got.card;
     match card {
-        Card::Bid { bidder, round } => {
+        Ok(Bid { bidder, round }) => {
             let lines = got.lines;
             let numbers = [bidder as u64, round as u64];
             let a = put_form(out, 0, b"ok # #", &numbers);
             let b = put_lines(out, a, lines, products);
             put_read(out, b, bidder, round, lines, products)
         }
-        Card::Refused(_) => 0,
+        Err(_) => 0,
     }
 }

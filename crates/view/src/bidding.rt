@@ -61,22 +61,17 @@ fn put_product(out: &mut [u8; ANSWER], at: usize, unit: u8, p: usize, r: Record,
 fn put_products(out: &mut [u8; ANSWER], at: usize, s: &[u8; STATE], b: usize) -> usize
     requires { b < 32 }
 {
-    let products = book::products(s);
     let unit = book::unit(s);
     let mut to = at;
-    let mut p = 0;
-    while p < 8 {
-        if p < products {
-            let k = b * 8 + p;
-            to = put_product(out, to, unit, p, book::record(s, k), book::line(s, k));
-        }
-        p += 1;
+    for p in 0..book::products(s).min(8) {
+        let k = b * 8 + p;
+        to = put_product(out, to, unit, p, book::record(s, k), book::line(s, k));
     }
     to
 }
 
 // What a bid comes to.
-#[derive(Clone, Copy)]
+#[derive(Clone, Copy, Default)]
 struct Sums {
     bid: u32,
     increased: u32,
@@ -86,10 +81,9 @@ impl Sums {
     fn with(self, r: Record, l: Line) -> Sums {
         let bid = l.tranches.0 as u32;
         let going = r.going.0 as u32;
-        let rise = if going < bid { bid - going } else { 0 };
         Sums {
-            bid: std::num::wrapping_add_u32(self.bid, bid),
-            increased: std::num::wrapping_add_u32(self.increased, rise),
+            bid: self.bid.wrapping_add(bid),
+            increased: self.increased.wrapping_add(bid.saturating_sub(going)),
         }
     }
 }
@@ -97,18 +91,10 @@ impl Sums {
 fn sums_of(s: &[u8; STATE], b: usize) -> Sums
     requires { b < 32 }
 {
-    let products = book::products(s);
-    let mut sums = Sums {
-        bid: 0,
-        increased: 0,
-    };
-    let mut p = 0;
-    while p < 8 {
-        if p < products {
-            let k = b * 8 + p;
-            sums = sums.with(book::record(s, k), book::line(s, k));
-        }
-        p += 1;
+    let mut sums = Sums::default();
+    for p in 0..book::products(s).min(8) {
+        let k = b * 8 + p;
+        sums = sums.with(book::record(s, k), book::line(s, k));
     }
     sums
 }
@@ -167,12 +153,8 @@ pub fn put_read(
 ) -> usize {
     let numbers = [bidder as u64, round as u64];
     let mut to = put_form(out, at, b"  bidder #, round #\n", &numbers);
-    let mut p = 0;
-    while p < 8 {
-        if p < products {
-            to = put_alone(out, to, p, lines[p]);
-        }
-        p += 1;
+    for p in 0..products.min(8) {
+        to = put_alone(out, to, p, lines[p]);
     }
     to
 }

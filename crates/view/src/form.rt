@@ -1,6 +1,4 @@
 // Lines by their form, which stands whole in the code.
-ghost use Rattle.std.specs.Prelude.{◌≤◌, length};
-
 use text::{ANSWER, put, put_named};
 
 // A number of a bidder or a product has its name after it where one is given. The name is put where the answer is written; here one byte
@@ -9,46 +7,16 @@ pub const BIDDER: u8 = 1;
 
 pub const PRODUCT: u8 = 2;
 
-// The next place of a byte, or the text's length.
-fn next_of(s: &[u8], b: u8, from: usize) -> usize
-    requires { from ≤ length s.now }
-    ensures { (from ≤ result) × (result ≤ length s.now) }
-{
-    let mut i = from;
-    while i < s.len() {
-        if s[i] == b {
-            return i;
-        }
-        i += 1;
-    }
-    i
-}
-
 // Where the next number goes: a number, a bidder's, a product's.
 fn is_mark(b: u8) -> bool {
-    (b == b'#') | (b == b'&') | (b == b'%')
-}
-
-// The next place of a mark, or the form's length.
-fn next_mark(form: &[u8], from: usize) -> usize
-    requires { from ≤ length form.now }
-    ensures { (from ≤ result) × (result ≤ length form.now) }
-{
-    let mut i = from;
-    while i < form.len() {
-        if is_mark(form[i]) {
-            return i;
-        }
-        i += 1;
-    }
-    i
+    matches!(b, b'#' | b'&' | b'%')
 }
 
 // A number after the byte that its mark stands for.
 fn put_marked(out: &mut [u8; ANSWER], at: usize, mark: u8, n: u64) -> usize {
     match mark {
-        b'&' => put_named(out, at, &[BIDDER; 1], n),
-        b'%' => put_named(out, at, &[PRODUCT; 1], n),
+        b'&' => put_named(out, at, &[BIDDER], n),
+        b'%' => put_named(out, at, &[PRODUCT], n),
         _ => put_named(out, at, b"", n),
     }
 }
@@ -56,36 +24,22 @@ fn put_marked(out: &mut [u8; ANSWER], at: usize, mark: u8, n: u64) -> usize {
 // Puts a form, with the next number in decimal in place of each `#`, a bidder's in place of `&`, a product's in place of `%`.
 pub fn put_form(out: &mut [u8; ANSWER], at: usize, form: &[u8], numbers: &[u64]) -> usize {
     let mut to = at;
-    let mut from = 0;
-    let mut i = 0;
-    while i < numbers.len() {
-        let mark = next_mark(form, from);
-        if form.len() <= mark {
-            return put(out, to, &form[from..mark]);
-        }
-        let a = put(out, to, &form[from..mark]);
-        to = put_marked(out, a, form[mark], numbers[i]);
-        from = mark + 1;
-        i += 1;
+    let mut rest = form;
+    for n in numbers {
+        let Some(k) = rest.iter().position(|b| is_mark(*b)) else {
+            break;
+        };
+        let a = put(out, to, &rest[..k]);
+        to = put_marked(out, a, rest[k], *n);
+        rest = &rest[k + 1..];
     }
-    put(out, to, &form[from..])
+    put(out, to, rest)
 }
 
 // Puts line n of a text, counted from 0, without its end; 0 where there is none.
 pub fn put_line(out: &mut [u8; ANSWER], lines: &[u8], n: usize) -> usize {
-    let mut from = 0;
-    let mut i = 0;
-    while i < n {
-        let end = next_of(lines, b'\n', from);
-        if lines.len() <= end {
-            return 0;
-        }
-        from = end + 1;
-        i += 1;
+    match lines.split(|b| *b == b'\n').nth(n) {
+        Some(line) => put(out, 0, line),
+        None => 0,
     }
-    let end = next_of(lines, b'\n', from);
-    if lines.len() <= end {
-        return 0;
-    }
-    put(out, 0, &lines[from..end])
 }

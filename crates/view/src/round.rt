@@ -1,38 +1,24 @@
 // What an opening, a calculation, a cutback or an undo left, in words.
 ghost use Rattle.std.specs.Prelude.{◌<◌};
 
-use crate::lots::{put_parts, put_told};
+use crate::lots::{put_comma, put_parts, put_told};
 use crate::price::{put_amount, put_points, put_price_end, put_unit};
 use crate::put_form;
 use layout::STATE;
-use rules::{Chosen, Lots, Phase};
-use story::Moves;
+use rules::{BasisPoints, Lots, Phase};
+use std::array;
 use text::{ANSWER, put, put_named};
 
 // ---- Who has filed
 
-// One more of a list that begins at `first`.
-fn put_listed(out: &mut [u8; ANSWER], to: usize, first: usize, b: usize) -> usize {
-    let numbers = [b as u64];
-    if to == first {
-        return put_form(out, to, b"&", &numbers);
-    }
-    put_form(out, to, b", &", &numbers)
-}
-
 // `0, 3, 4`: the bidders that have not filed. The place after them.
 pub fn put_missing(out: &mut [u8; ANSWER], at: usize, s: &[u8; STATE]) -> usize {
-    let n = book::bidders(s);
     let mut to = at;
-    let mut b = 0;
-    while b < 32 {
-        if n <= b {
-            return to;
-        }
+    for b in 0..book::bidders(s).min(32) {
         if !book::has_filed(s, b) {
-            to = put_listed(out, to, at, b);
+            let a = put_comma(out, to, at, b", ");
+            to = put_form(out, a, b"&", &[b as u64]);
         }
-        b += 1;
     }
     to
 }
@@ -63,12 +49,7 @@ pub fn put_now(out: &mut [u8; ANSWER], at: usize, s: &[u8; STATE]) -> usize {
 }
 
 pub fn is_open(s: &[u8; STATE]) -> bool {
-    match Phase::of(book::phase(s)) {
-        Phase::Open => true,
-        Phase::Issued => false,
-        Phase::Closed => false,
-        Phase::Stopped => false,
-    }
+    matches!(Phase::of(book::phase(s)), Phase::Open)
 }
 
 fn put_line_now(out: &mut [u8; ANSWER], at: usize, s: &[u8; STATE]) -> usize {
@@ -109,28 +90,18 @@ fn put_setting(out: &mut [u8; ANSWER], at: usize, s: &[u8; STATE], p: usize) -> 
 }
 
 fn put_settings(out: &mut [u8; ANSWER], at: usize, s: &[u8; STATE]) -> usize {
-    let n = book::products(s);
     let mut to = at;
-    let mut p = 0;
-    while p < 8 {
-        if p < n {
-            to = put_setting(out, to, s, p);
-        }
-        p += 1;
+    for p in 0..book::products(s).min(8) {
+        to = put_setting(out, to, s, p);
     }
     to
 }
 
 fn put_eligibilities(out: &mut [u8; ANSWER], at: usize, s: &[u8; STATE]) -> usize {
-    let n = book::bidders(s);
     let mut to = at;
-    let mut b = 0;
-    while b < 32 {
-        if b < n {
-            let numbers = [b as u64, book::initial(s, b).0 as u64];
-            to = put_form(out, to, b"  bidder &: eligibility #\n", &numbers);
-        }
-        b += 1;
+    for b in 0..book::bidders(s).min(32) {
+        let numbers = [b as u64, book::initial(s, b).0 as u64];
+        to = put_form(out, to, b"  bidder &: eligibility #\n", &numbers);
     }
     to
 }
@@ -151,14 +122,9 @@ fn put_row(out: &mut [u8; ANSWER], at: usize, s: &[u8; STATE], i: usize) -> usiz
 }
 
 fn put_rows(out: &mut [u8; ANSWER], at: usize, s: &[u8; STATE]) -> usize {
-    let n = book::rows(s);
     let mut to = at;
-    let mut i = 0;
-    while i < 8 {
-        if i < n {
-            to = put_row(out, to, s, i);
-        }
-        i += 1;
+    for i in 0..book::rows(s).min(8) {
+        to = put_row(out, to, s, i);
     }
     to
 }
@@ -207,16 +173,10 @@ fn put_standing(out: &mut [u8; ANSWER], at: usize, s: &[u8; STATE], p: usize, pr
     put_price_end(out, to, book::mark(s, p) != 0)
 }
 
-// `from` has the price of each product that the round went by.
-fn put_standings(out: &mut [u8; ANSWER], at: usize, from: &[u8; STATE], s: &[u8; STATE]) -> usize {
-    let n = book::products(s);
+fn put_standings(out: &mut [u8; ANSWER], at: usize, s: &[u8; STATE], prices: [u32; 8]) -> usize {
     let mut to = at;
-    let mut p = 0;
-    while p < 8 {
-        if p < n {
-            to = put_standing(out, to, s, p, book::price(from, p).amount());
-        }
-        p += 1;
+    for p in 0..book::products(s).min(8) {
+        to = put_standing(out, to, s, p, prices[p]);
     }
     to
 }
@@ -311,41 +271,18 @@ fn put_moves(
     )
 }
 
-fn put_bidder_moves(
-    out: &mut [u8; ANSWER],
-    at: usize,
-    before: &[u8; STATE],
-    after: &[u8; STATE],
-    b: usize,
-) -> usize
-    requires { b < 32 }
-{
-    let n = book::products(before);
-    let mut to = at;
-    let mut p = 0;
-    while p < 8 {
-        if p < n {
-            to = put_moves(out, to, before, after, b, p);
-        }
-        p += 1;
-    }
-    to
-}
-
 fn put_all_moves(
     out: &mut [u8; ANSWER],
     at: usize,
     before: &[u8; STATE],
     after: &[u8; STATE],
 ) -> usize {
-    let n = book::bidders(before);
+    let products = book::products(before).min(8);
     let mut to = at;
-    let mut b = 0;
-    while b < 32 {
-        if b < n {
-            to = put_bidder_moves(out, to, before, after, b);
+    for b in 0..book::bidders(before).min(32) {
+        for p in 0..products {
+            to = put_moves(out, to, before, after, b, p);
         }
-        b += 1;
     }
     to
 }
@@ -417,17 +354,13 @@ fn put_all_idle(
     out: &mut [u8; ANSWER],
     at: usize,
     s: &[u8; STATE],
-    overrides: [Chosen; 8],
+    overrides: [Option<BasisPoints>; 8],
 ) -> usize {
     let mut to = at;
-    let mut p = 0;
-    while p < 8 {
-        let chosen = overrides[p];
-        let by = chosen.decrement;
-        if by.is_given() & (book::mark(s, p) == 0) {
+    for p in 0..8 {
+        if overrides[p].is_some() & (book::mark(s, p) == 0) {
             to = put_idle(out, to, s, p);
         }
-        p += 1;
     }
     to
 }
@@ -437,7 +370,7 @@ pub fn put_calculated(
     out: &mut [u8; ANSWER],
     at: usize,
     before: &[u8; STATE],
-    overrides: [Chosen; 8],
+    overrides: [Option<BasisPoints>; 8],
     after: &[u8; STATE],
 ) -> usize {
     let numbers = [book::round(before) as u64];
@@ -445,7 +378,9 @@ pub fn put_calculated(
     let b = put_missing(out, a, before);
     let c = if a == b { put(out, a, b"none") } else { b };
     let d = put(out, c, b"\n");
-    let e = put_standings(out, d, before, after);
+    // What the round went by.
+    let prices = array::from_fn(|p| book::price(before, p).amount());
+    let e = put_standings(out, d, after, prices);
     let f = put_all_idle(out, e, after, overrides);
     let g = put_all_moves(out, f, before, after);
     let h = put_total(out, g, after);
@@ -486,24 +421,10 @@ fn put_all_freed(
     after: &[u8; STATE],
 ) -> usize {
     let mut to = at;
-    let mut k = 0;
-    while k < 256 {
-        to = put_freed(out, to, before, after, k / 8, k % 8);
-        k += 1;
-    }
-    to
-}
-
-// The starting price of each product, which "Round 2 prices are worked out afresh from".
-fn put_cut_standings(out: &mut [u8; ANSWER], at: usize, s: &[u8; STATE]) -> usize {
-    let n = book::products(s);
-    let mut to = at;
-    let mut p = 0;
-    while p < 8 {
-        if p < n {
-            to = put_standing(out, to, s, p, book::start(s, p).amount());
+    for b in 0..32 {
+        for p in 0..8 {
+            to = put_freed(out, to, before, after, b, p);
         }
-        p += 1;
     }
     to
 }
@@ -516,7 +437,9 @@ pub fn put_cut(
     after: &[u8; STATE],
 ) -> usize {
     let a = put_all_freed(out, at, before, after);
-    let b = put_cut_standings(out, a, after);
+    // "Round 2 prices are worked out afresh from" the starting price of each product.
+    let prices = array::from_fn(|p| book::start(after, p).amount());
+    let b = put_standings(out, a, after, prices);
     let c = put_total(out, b, after);
     put_line_now(out, c, after)
 }

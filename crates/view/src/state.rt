@@ -46,29 +46,19 @@ fn put_product(out: &mut [u8; ANSWER], at: usize, s: &[u8; STATE], p: usize) -> 
 }
 
 fn put_products(out: &mut [u8; ANSWER], at: usize, s: &[u8; STATE]) -> usize {
-    let n = book::products(s);
     let mut to = at;
-    let mut p = 0;
-    while p < 8 {
-        if p < n {
-            to = put_product(out, to, s, p);
-        }
-        p += 1;
+    for p in 0..book::products(s).min(8) {
+        to = put_product(out, to, s, p);
     }
     to
 }
 
 fn put_rows(out: &mut [u8; ANSWER], at: usize, s: &[u8; STATE]) -> usize {
-    let n = book::rows(s);
     let mut to = at;
-    let mut i = 0;
-    while i < 8 {
-        if i < n {
-            let row = book::row(s, i);
-            let numbers = [i as u64, row.percent as u64, row.decrement.0 as u64];
-            to = put_form(out, to, b"  row # percent # decrement #\n", &numbers);
-        }
-        i += 1;
+    for i in 0..book::rows(s).min(8) {
+        let row = book::row(s, i);
+        let numbers = [i as u64, row.percent as u64, row.decrement.0 as u64];
+        to = put_form(out, to, b"  row # percent # decrement #\n", &numbers);
     }
     to
 }
@@ -91,12 +81,8 @@ fn put_records(
     requires { b < 32 }
 {
     let mut to = at;
-    let mut p = 0;
-    while p < 8 {
-        if p < products {
-            to = put_record(out, to, book::record(s, b * 8 + p));
-        }
-        p += 1;
+    for p in 0..products.min(8) {
+        to = put_record(out, to, book::record(s, b * 8 + p));
     }
     put(out, to, b"\n")
 }
@@ -114,14 +100,9 @@ pub fn put_fields(out: &mut [u8; ANSWER], at: usize, l: Line) -> usize {
 pub fn put_card_fields(out: &mut [u8; ANSWER], at: usize, s: &[u8; STATE], b: usize) -> usize
     requires { b < 32 }
 {
-    let products = book::products(s);
     let mut to = at;
-    let mut p = 0;
-    while p < 8 {
-        if p < products {
-            to = put_fields(out, to, book::line(s, b * 8 + p));
-        }
-        p += 1;
+    for p in 0..book::products(s).min(8) {
+        to = put_fields(out, to, book::line(s, b * 8 + p));
     }
     put(out, to, b"\n")
 }
@@ -149,7 +130,7 @@ fn put_bidder(
 {
     let eligibility = book::initial(s, b);
     let free = book::free(s, b);
-    let filed = if book::has_filed(s, b) { 1 } else { 0 };
+    let filed = book::has_filed(s, b) as u64;
     let numbers = [b as u64, eligibility.0 as u64, free.0 as u64, filed];
     let a = put_form(
         out,
@@ -162,16 +143,10 @@ fn put_bidder(
 }
 
 fn put_bidders(out: &mut [u8; ANSWER], at: usize, s: &[u8; STATE]) -> usize {
-    let n = book::bidders(s);
     let products = book::products(s);
     let mut to = at;
-    let mut b = 0;
-    while b < 32 {
-        if n <= b {
-            return to;
-        }
+    for b in 0..book::bidders(s).min(32) {
         to = put_bidder(out, to, s, b, products);
-        b += 1;
     }
     to
 }
@@ -196,17 +171,14 @@ pub fn show(out: &mut [u8; ANSWER], s: &[u8; STATE]) -> usize {
 // `ok N of M`, and the card of each bidder that has filed. So many are still to file.
 pub fn cards(out: &mut [u8; ANSWER], s: &[u8; STATE], to_file: u32) -> usize {
     let all = book::bidders(s) as u64;
-    let filed = std::num::wrapping_sub_u64(all, to_file as u64);
+    let filed = all.wrapping_sub(to_file as u64);
     let numbers = [filed, all];
     let mut to = put_form(out, 0, b"ok # of #\n", &numbers);
-    let mut b = 0;
-    while b < 32 {
+    for b in 0..32 {
         if book::has_filed(s, b) {
-            let bidder = [b as u64];
-            let a = put_form(out, to, b"  bidder &", &bidder);
+            let a = put_form(out, to, b"  bidder &", &[b as u64]);
             to = put_card_fields(out, a, s, b);
         }
-        b += 1;
     }
     to
 }

@@ -24,28 +24,10 @@ loop-p-init c = (
   },
 )
 
-pub bounds-lines-p : goal.bounds-lines-p
-bounds-lines-p c =
-    let t = c in
-    let m = t in
-    omega (arith, t.loop-p-test.true, m.products-m.ensures.0, m.requires.lent.counts.products)
-
 pub with-sums-requires : goal.with-sums-requires
 with-sums-requires c =
     let t = c in
     small_8 t.loop-p.invariant.1.small (omega (arith, t.loop-p.invariant.0, t.products-m.ensures.0, t.requires.lent.counts.products))
-
-pub overflow_add-p : goal.overflow_add-p
-overflow_add-p c =
-    let t = c in
-    let l = t.loop-p-test.true in
-    let m = t.products-m.ensures.1 in
-    search rules
-
-pub loop-p-smaller : goal.loop-p-smaller
-loop-p-smaller c =
-    let t = c in
-    omega (arith, t.loop-p-test.true)
 
 pub loop-p-preserved : goal.loop-p-preserved
 loop-p-preserved c =

@@ -1,45 +1,25 @@
-use mathlib.Core.Path.{◌∙◌, ap, ap₂}
-use Prim.Native.Nat.{◌-◌}
+use mathlib.Core.Path.{◌∙◌}
 use borrow.Author.Rules.{rules}
+use borrow.Author.Tests.{tests}
+use Rattle.rules.specs.Layout.{loaded}
 use Rattle.rules.specs.Parts.{row}
+use Rattle.rules.specs.Settings.{setup, item, target_of, cap_of, start_of, initial_of, percent_of, decrement_of}
 use Rattle.rules.specs.Units.{tranches}
-use Rattle.rules.proofs.Fill.{none_filled, one_more, all_filled}
 use Rattle.book.proofs.Loaded.{products_at, bidders_at, rows_at, items_are, eligibility_is, rows_are}
+use Rattle.rules.proofs.Made.{made}
 use Rattle.book.proofs.setup.Goals as goal
-
-pub loop-i-preserved : goal.loop-i-preserved
-loop-i-preserved c =
-    let x = c in
-    let d = x in
-    let v = d.loop-i.invariant in
-    let l = d.loop-i-test.true in (
-      one_more _ v.0 l (rw (x.target.ensures, x.cap.ensures, x.amount.ensures, d.start-x.ensures.1)),
-      one_more _ v.1 l (ap₂ row c.row.ensures.0 c.row.ensures.1),
-    )
-
-pub loop-b-preserved : goal.loop-b-preserved
-loop-b-preserved c = one_more _ c.loop-b.invariant c.loop-b-test.true (ap tranches c.initial.ensures)
 
 pub returns : goal.returns
 returns c =
-    let u = c in
-    let e = u in
-    let d = e in
-    let v = d.loop-i.invariant in
-    let s = d.args.s.now in
+    let s = c.args.s.now in
+    let a = loaded s in
     rw (
-      u.unit.ensures,
+      c.unit.ensures,
       products_at s,
       bidders_at s,
       rows_at s,
-      u.statewide-statewide.ensures,
-      all_filled v.0 d.loop-i-test.false ∙ items_are s,
-      all_filled e.loop-b.invariant e.loop-b-test.false ∙ eligibility_is s,
-      all_filled v.1 d.loop-i-test.false ∙ rows_are s,
+      c.statewide-statewide.ensures,
+      made (λ p. item (target_of (setup a) p) (cap_of (setup a) p) (start_of (setup a) p)) 8 (λ p y q l k. search (rules, tests)) c.from_fn-item.ensures.items ∙ items_are s,
+      made (λ b. tranches (initial_of (setup a) b)) 32 (λ b y q l k. search (rules, tests)) c.from_fn-eligibility.ensures.items ∙ eligibility_is s,
+      made (λ i. row (percent_of a.decrements i) (decrement_of a.decrements i)) 8 (λ i y q l k. search (rules, tests)) c.from_fn-row.ensures.items ∙ rows_are s,
     )
-
-pub loop-i-init : goal.loop-i-init
-loop-i-init c = (none_filled _ (search rules), none_filled _ (search rules))
-
-pub loop-b-init : goal.loop-b-init
-loop-b-init c = none_filled _ (search rules)

@@ -19,10 +19,10 @@ returns-in_default c =
     let a = c.args in
     c.refused-in_default.ensures
     ∙ sym (read_5 a.card.now a.products (omega arith) (omega arith) (omega arith)
-    (not_filled (filled a.card.now a.products) _ _ _ (sym c.take_card-taken.ensures.0 ∙ c.in_default.is)))
+    (not_filled (filled a.card.now a.products) _ _ (sym c.take_card-taken.ensures.0 ∙ c.in_default.is)))
 
 pub returns : goal.returns
 returns c =
     let a = c.args in
     read_found a.card.now a.products (omega arith) (omega arith) (omega arith)
-    (is_filled (filled a.card.now a.products) _ _ _ _ (sym c.take_card-taken.ensures.0 ∙ c.in-Bid.is)) _ c.take_card-taken.ensures.0 c.take_card-taken.ensures.1
+    (is_filled (filled a.card.now a.products) _ _ (sym c.take_card-taken.ensures.0 ∙ c.in-Ok.is)) _ c.take_card-taken.ensures.0 c.take_card-taken.ensures.1

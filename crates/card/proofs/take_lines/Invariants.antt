@@ -1,5 +1,5 @@
 -- The reader is before line i, and the array has the lines before it. Assumes nothing.
-use Rattle.std.proofs.Common.{◌≡◌, ◌-◌, ◌*◌, ◌≤◌}
+use Rattle.std.proofs.Common.{◌≡◌, ◌*◌, ◌≤◌}
 use Rattle.rules.specs.Card.{line_bits, read_lines}
 use Rattle.card.specs.Parts.{on}
 use Rattle.card.proofs.take_lines.Given as goal
@@ -10,6 +10,3 @@ invariant-loop-i l = record {
   read : l.lines ≡ read_lines l.fn.reader.card.now l.i;
   goes : l.reader ≡ on l.fn.reader (line_bits * l.i);
 }
-
-abbrev pub decreases-loop-i : goal.decreases-loop-i
-decreases-loop-i l = l.products - l.i

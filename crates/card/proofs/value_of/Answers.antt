@@ -8,4 +8,4 @@ returns-in_default c = rw c.in_default.is
 
 pub returns : goal.returns
 unfolding value_of
-returns c = rw c.in-Value.is
+returns c = rw c.in-Some.is

@@ -1,22 +1,20 @@
-use native.Mathlib.Omega.{arith}
+use mathlib.Core.Path.{◌≡◌, ◌∙◌}
+use borrow.Author.Rules.{rules}
+use Rattle.std.specs.Prelude.{Err}
+use Rattle.rules.proofs.Numbered.{accepted}
 use Rattle.numbers.proofs.StateLaws.{standing, lent}
-use Rattle.console.proofs.Filing.{state_refused, card_refused, card_filed}
+use Rattle.console.proofs.Filing.{state_refused, card_answered}
 use Rattle.console.proofs.file.Goals as goal
 
-pub returns-then-n-ne0 : goal.returns-then-n-ne0
-returns-then-n-ne0 c = state_refused c.args.s.now c.args.card.now _ c.state_number-n.ensures (omega (arith, c.if-n-ne0.true))
+pub returns-in_err-state_number : goal.returns-in_err-state_number
+returns-in_err-state_number c =
+    let e = c.in_err-state_number in
+    let r : c.from_residual.result ≡ Err e.field-0.0 = search rules in
+    let k = state_refused c.args.s.now c.args.card.now e.ensures in
+    (r ∙ k.0, k.1)
 
-pub returns-then-k-ne0 : goal.returns-then-k-ne0
-returns-then-k-ne0 c =
-    let known = c in
-    let a = known.args in
-    card_refused a.s.now a.card.now (standing _ _ known.state_number-n.ensures (omega (arith, known.if-n-ne0.false))) _ _ c.file_card-k.ensures (omega (arith, c.if-k-ne0.true))
+pub file_card-requires : goal.file_card-requires
+file_card-requires c = lent _ (standing _ (accepted tt _ c.in_ok-state_number.ensures))
 
 pub returns : goal.returns
-returns c =
-    let known = c in
-    let a = known.args in
-    card_filed a.s.now a.card.now (standing _ _ known.state_number-n.ensures (omega (arith, known.if-n-ne0.false))) _ _ c.file_card-k.ensures (omega (arith, c.if-k-ne0.false))
-
-pub file_card-k-requires : goal.file_card-k-requires
-file_card-k-requires c = lent _ (standing _ _ c.state_number-n.ensures (omega (arith, c.if-n-ne0.false)))
+returns c = card_answered c.args.s.now c.args.card.now (standing _ (accepted tt _ c.in_ok-state_number.ensures)) _ _ c.file_card.ensures

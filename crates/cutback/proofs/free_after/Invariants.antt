@@ -8,9 +8,5 @@ use Rattle.rules.specs.Layout.{loaded}
 use Rattle.cutback.proofs.free_after.Given as goal
 
 abbrev pub invariant-loop-p : goal.invariant-loop-p
-invariant-loop-p l = (l.p ≤ l.products)
-    × ((l.sum ≡ free_of (loaded l.s) l.b + sum_up_to (λ p. going_in (record_of (loaded l.s) l.b p) - given_for l.caps p) l.p)
-    × (l.sum ≤ free_of (loaded l.s) l.b + sum_up_to (λ p. going_in (record_of (loaded l.s) l.b p)) l.p))
-
-abbrev pub decreases-loop-p : goal.decreases-loop-p
-decreases-loop-p l = l.products - l.p
+invariant-loop-p l = (l.sum ≡ free_of (loaded l.s) l.b + sum_up_to (λ p. going_in (record_of (loaded l.s) l.b p) - given_for l.caps p) l.p)
+    × (l.sum ≤ free_of (loaded l.s) l.b + sum_up_to (λ p. going_in (record_of (loaded l.s) l.b p)) l.p)

@@ -1,13 +1,10 @@
-use native.Mathlib.Omega.{arith}
 use borrow.Author.Rules.{rules}
-use Rattle.rules.proofs.Fill.{none_filled, one_more, all_filled}
+use Rattle.rules.specs.Units.{tranches}
+use Rattle.rules.specs.Cutback.{free_cut}
+use Rattle.rules.specs.Layout.{loaded}
+use Rattle.rules.proofs.Made.{made}
 use Rattle.cutback.proofs.freed.Goals as goal
 
-pub loop-b-init : goal.loop-b-init
-loop-b-init c = none_filled _ (search rules)
-
-pub loop-b-preserved : goal.loop-b-preserved
-loop-b-preserved c = one_more _ c.loop-b.invariant (omega arith) cc
-
 pub returns : goal.returns
-returns c = all_filled c.loop-b.invariant (omega arith)
+returns c =
+    made (λ b. tranches (free_cut (loaded c.args.s.now) c.args.caps b)) 32 (λ x y q l k. search rules) c.from_fn.ensures.items

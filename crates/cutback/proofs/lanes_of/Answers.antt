@@ -1,21 +1,17 @@
-use mathlib.Core.Path.{refl}
-use native.Mathlib.Omega.{arith}
+use mathlib.Core.Path.{◌≡◌}
 use borrow.Author.Rules.{rules}
+use Rattle.rules.specs.Units.{amount_of, quote}
+use Rattle.rules.specs.Settings.{setup, start_of}
 use Rattle.rules.specs.Layout.{loaded}
-use Rattle.rules.proofs.Fill.{none_filled, one_more}
-use Rattle.prices.proofs.Laws.{listed}
+use Rattle.rules.proofs.Made.{made_each}
 use Rattle.cutback.proofs.lanes_of.Goals as goal
 
-pub loop-p-preserved : goal.loop-p-preserved
-loop-p-preserved c =
-    let v = c.loop-p.invariant in
-    (one_more _ v.0 (omega arith) (cc), one_more _ v.1 (omega arith) (cc))
-
 pub returns : goal.returns
-returns c =
-    let v = c.loop-p.invariant in
-    let a = c.args in
-    (listed (loaded a.s.now).terms.unit _ _ _ v.0 v.1 v.1 (omega arith), refl)
-
-pub loop-p-init : goal.loop-p-init
-loop-p-init c = (none_filled _ (search rules), none_filled _ (search rules))
+returns c = (
+  record {
+    target = λ p h. search rules;
+    price = λ p h. made_each (λ p x. amount_of x.price ≡ start_of (setup (loaded c.args.s.now)) p) 8 (λ x y q l k. search rules) c.from_fn-price.ensures.items p (quote 0 0) h;
+    before = λ p h. made_each (λ p x. amount_of x.price ≡ start_of (setup (loaded c.args.s.now)) p) 8 (λ x y q l k. search rules) c.from_fn-price.ensures.items p (quote 0 0) h;
+  },
+  search rules,
+)

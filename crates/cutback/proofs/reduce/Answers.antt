@@ -1,9 +1,4 @@
 use Rattle.cutback.proofs.reduce.Goals as goal
 
 pub returns : goal.returns
-returns c =
-    let r = c in
-    let f = r in
-    let m = f in
-    let l = m in
-    r.records.ensures _ (f.free.ensures _ (m.no_marks.ensures _ (l.limits.ensures _ l.as_stored.ensures.1)))
+returns c = c.records.ensures _ (c.free.ensures _ (c.no_marks.ensures _ (c.limits.ensures _ c.as_stored.ensures.1)))

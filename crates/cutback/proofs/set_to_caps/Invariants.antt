@@ -1,4 +1,4 @@
-use Prim.Native.Nat.{◌-◌, ◌%◌}
+use Prim.Native.Nat.{◌%◌}
 use Rattle.rules.specs.Lots.{no_lots}
 use Rattle.rules.specs.Held.{record_at, set_to}
 use Rattle.rules.specs.Accept.{at}
@@ -10,6 +10,3 @@ use Rattle.cutback.proofs.set_to_caps.Given as goal
 
 abbrev pub invariant-loop-k : goal.invariant-loop-k
 invariant-loop-k l = Filled (λ k. at (set_to (record_at (loaded l.s).records k) (given_for l.caps (k % 8))) no_lots 0 0 0) 256 l.k (places_in l.ps)
-
-abbrev pub decreases-loop-k : goal.decreases-loop-k
-decreases-loop-k l = 256 - l.k

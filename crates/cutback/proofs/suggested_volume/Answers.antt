@@ -2,7 +2,7 @@ use mathlib.Core.Path.{ap, refl}
 use Prim.Native.Nat.{◌/◌}
 use native.Mathlib.Omega.{arith}
 use borrow.Author.Tests.{eq-eqb, ne_eqb, le-leb, lt-leb}
-use Rattle.rules.specs.declared.Volume.TheVariants.{Suggested}
+use Rattle.std.specs.Prelude.{Ok}
 use Rattle.rules.specs.Calls.{suggested_call}
 use Rattle.cutback.proofs.suggested_volume.Goals as goal
 
@@ -20,4 +20,4 @@ pub returns : goal.returns
 unfolding suggested_call
 returns c =
     let a = c.args in
-    rw (ne_eqb a.ratio 0 (omega arith), le-leb a.bid 51200 (omega arith)) (ap (λ n. Suggested (n / a.ratio)) (omega arith))
+    rw (ne_eqb a.ratio 0 (omega arith), le-leb a.bid 51200 (omega arith)) (ap (λ n. Ok (n / a.ratio)) (omega arith))

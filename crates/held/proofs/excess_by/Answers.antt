@@ -1,10 +1,8 @@
 use mathlib.Core.Path.{◌∙◌, ap₂}
-use Prim.Native.Nat.{◌+◌, ◌-◌}
+use Prim.Native.Nat.{◌+◌}
 use native.Mathlib.Nat.{le_antisymm}
 use native.Mathlib.Numerals.{add-one}
 use native.Mathlib.Omega.{arith}
-use borrow.Author.Rules.{rules}
-use Rattle.held.proofs.Signed.{surplus_is}
 use Rattle.held.proofs.excess_by.Goals as goal
 
 pub loop-b-preserved : goal.loop-b-preserved

@@ -1,22 +1,18 @@
 use mathlib.Core.Path.{◌∙◌, ap}
-use Prim.Native.Nat.{◌-◌}
 use borrow.Author.Rules.{rules}
+use borrow.Author.Tests.{tests}
 use lib.Dec.{eqb}
 use mir.Val.{bool_byte}
 use Rattle.rules.specs.Held.{ticked}
-use Rattle.rules.proofs.Fill.{all_filled, none_filled, one_more}
+use Rattle.rules.specs.Layout.{loaded}
 use Rattle.rules.proofs.Lists.{list_at}
+use Rattle.rules.proofs.Made.{made}
 use Rattle.held.proofs.Found.{one_is}
 use Rattle.held.specs.Ticks.{is_one}
 use Rattle.held.proofs.ticks_by.Goals as goal
 
-pub loop-p-init : goal.loop-p-init
-loop-p-init c = none_filled _ (search rules)
-
-pub loop-p-preserved : goal.loop-p-preserved
-loop-p-preserved c = one_more _ c.loop-p.invariant c.loop-p-test.true (ap bool_byte c.ticked.ensures)
-
 pub returns : goal.returns
 returns c =
-    let v = c.loop-p.invariant in
-    (v.long, λ p l. ap (λ x. is_one x p) (all_filled v c.loop-p-test.false) ∙ ap (λ x. eqb x 1) (list_at _ 0 8 p l) ∙ one_is _)
+    let h = c.from_fn.ensures.items in
+    let a = loaded c.args.s.now in
+    (h.long, λ p l. ap (λ x. is_one x p) (made (λ p. bool_byte (ticked a p)) 8 (λ p y q l k. search (rules, tests)) h) ∙ ap (λ x. eqb x 1) (list_at _ 0 8 p l) ∙ one_is _)

@@ -1,11 +1,7 @@
 use Rattle.keep.specs.Search.{next_up_to}
 use Rattle.rules.specs.Round.{drawn}
-use Prim.Native.Nat.{◌≤◌, ◌-◌}
 use mathlib.Core.Path.{◌≡◌}
 use Rattle.keep.proofs.next_turn.Given as goal
 
 abbrev pub invariant-loop-i : goal.invariant-loop-i
-invariant-loop-i l = (l.i ≤ l.bidders) × (l.best ≡ next_up_to l.turns (drawn l.order) l.p l.i)
-
-abbrev pub decreases-loop-i : goal.decreases-loop-i
-decreases-loop-i l = l.bidders - l.i
+invariant-loop-i l = l.best ≡ next_up_to l.turns (drawn l.order) l.p l.i

@@ -1,58 +1,33 @@
 use mathlib.Core.Path.{subst}
 use native.Mathlib.Omega.{arith}
+use borrow.Author.Rules.{rules}
 use Rattle.rules.specs.Accept.{place_at}
 use Rattle.keep.specs.Step.{Timed, Ranked}
 use Rattle.table.proofs.Laws.{filled_next}
 use Rattle.table.specs.Rows.{places_in}
-use borrow.Author.Rules.{rules}
 use Rattle.keep.proofs.number_all.Goals as goal
-
-pub loop-k-init : goal.loop-k-init
-loop-k-init c = (
-  search rules,
-  (
-    c.requires.0,
-    (
-      c.requires.1,
-      (
-        λ j l. absurd (let z : ⊥ = omega arith in z),
-        λ j l. absurd (let z : ⊥ = omega arith
-            in z),
-      ),
-    ),
-  ),
-)
 
 pub loop-k-preserved : goal.loop-k-preserved
 loop-k-preserved c =
-    let a = c.args in
     let v = c.loop-k in
-    let i = c.loop-k-test.true in
     let e = c.place_at-l.ensures in
     let t = c.turn_of in
-    let w = places_in a.ps.now in (
+    let w = places_in c.args.ps.now in
+    let turns = v.invariant.0 in
+    let ranks = v.invariant.1 in (
       search rules,
-      (
-        search rules,
-        (
-          search rules,
-          (
-            filled_next (λ j x. Timed x (place_at w j)) 0 v.turns v.k t.result (omega (arith, v.invariant.1.0, i))
-                (subst (Timed t.result) e t.ensures) v.invariant.1.1.1.0,
-            filled_next (λ j x. Ranked x (place_at w j)) 0 v.ranks v.k c.rank_of.result
-                (omega (arith, v.invariant.1.1.0, i)) (subst (Ranked c.rank_of.result) e c.rank_of.ensures) v.invariant.1.1.1.1,
-          ),
-        ),
-      ),
+      search rules,
+      filled_next (λ j x. Timed x (place_at w j)) 0 v.turns v.k t.result (omega (arith, turns)) (subst (Timed t.result) e t.ensures) v.invariant.2,
+      filled_next (λ j x. Ranked x (place_at w j)) 0 v.ranks v.k c.rank_of.result (omega (arith, ranks))
+          (subst (Ranked c.rank_of.result) e c.rank_of.ensures) v.invariant.3,
     )
 
 pub returns : goal.returns
 returns c =
-    let v = c.loop-k in
-    let i = c.loop-k-test.false in
+    let v = c.loop-k.invariant in
     record {
-      turns_long = v.invariant.1.0;
-      timed = λ j l. v.invariant.1.1.1.0 j (omega arith);
-      ranks_long = v.invariant.1.1.0;
-      ranked = λ j l. v.invariant.1.1.1.1 j (omega arith);
+      turns_long = v.0;
+      timed = λ j l. v.2 j (omega arith);
+      ranks_long = v.1;
+      ranked = λ j l. v.3 j (omega arith);
     }

@@ -1,5 +1,5 @@
 use mathlib.Core.Path.{◌≡◌}
-use Prim.Native.Nat.{ℕ, ◌≤◌, ◌<◌, ◌-◌}
+use Prim.Native.Nat.{ℕ, ◌<◌}
 use lib.ListN.{get_or, length}
 use Rattle.rules.specs.Accept.{place_at}
 use Rattle.keep.specs.Step.{Timed, Ranked}
@@ -7,9 +7,5 @@ use Rattle.table.specs.Rows.{places_in}
 use Rattle.keep.proofs.number_all.Given as goal
 
 abbrev pub invariant-loop-k : goal.invariant-loop-k
-invariant-loop-k l = (l.k ≤ 256) × ((length l.turns ≡ 256) × ((length l.ranks ≡ 256)
-    × (((j : ℕ) → j < l.k → Timed (get_or l.turns j 0) (place_at (places_in l.ps) j)) × ((j : ℕ) → j < l.k → Ranked (get_or l.ranks j 0)
-    (place_at (places_in l.ps) j)))))
-
-abbrev pub decreases-loop-k : goal.decreases-loop-k
-decreases-loop-k l = 256 - l.k
+invariant-loop-k l = (length l.turns ≡ 256) × (length l.ranks ≡ 256) × ((j : ℕ) → j < l.k → Timed (get_or l.turns j 0) (place_at (places_in l.ps) j))
+    × ((j : ℕ) → j < l.k → Ranked (get_or l.ranks j 0) (place_at (places_in l.ps) j))

@@ -1,5 +1,5 @@
 use mathlib.Core.Path.{◌≡◌}
-use Prim.Native.Nat.{◌*◌, ◌≤◌, ◌-◌}
+use Prim.Native.Nat.{◌*◌, ◌≤◌}
 use Rattle.rules.specs.Accept.{place_at, held_of, left_of}
 use Rattle.rules.specs.Count.{sum_up_to}
 use Rattle.table.specs.Rows.{places_in}
@@ -7,8 +7,5 @@ use Rattle.table.proofs.Sums.{SumsTo}
 use Rattle.keep.proofs.sum_all.Given as goal
 
 abbrev pub invariant-loop-k : goal.invariant-loop-k
-invariant-loop-k l = (l.k ≤ l.bidders * 8) × (SumsTo held_of l.held (places_in l.ps) l.k
-    × ((l.left ≡ sum_up_to (λ j. left_of (place_at (places_in l.ps) j)) l.k) × (l.left ≤ 327675 * l.k)))
-
-abbrev pub decreases-loop-k : goal.decreases-loop-k
-decreases-loop-k l = l.bidders * 8 - l.k
+invariant-loop-k l = SumsTo held_of l.held (places_in l.ps) l.k
+    × ((l.left ≡ sum_up_to (λ j. left_of (place_at (places_in l.ps) j)) l.k) × (l.left ≤ 327675 * l.k))

@@ -1,54 +1,37 @@
-use mathlib.Core.Path.{sym}
-use mathlib.Core.Bool.{◌&&◌, ◌||◌}
-use mathlib.Core.Path.{◌∙◌, ap, ap₂}
+use mathlib.Core.Bool.{◌&&◌}
+use mathlib.Core.Path.{refl, sym, ◌∙◌, ap, ap₂}
 use borrow.Author.Rules.{rules}
+use borrow.Author.Tests.{tests}
 use lib.Dec.{eqb, ltb}
-use Rattle.rules.specs.Bid.{judged}
-use Rattle.rules.specs.Card.{line_zero}
+use lib.ListN.{get_or}
+use Rattle.std.specs.Prelude.{is_ok}
+use Rattle.rules.specs.Bid.{judged, slot_of}
+use Rattle.rules.specs.Card.{no_line}
+use Rattle.rules.specs.Held.{place}
 use Rattle.rules.specs.Layout.{loaded}
-use Rattle.rules.proofs.Fill.{all_filled, none_filled, one_more}
+use Rattle.rules.proofs.Numbered.{ok_is}
+use Rattle.rules.proofs.Ranges.{all_below}
 use Rattle.rules.proofs.Tests.{yes}
-use Rattle.held.proofs.Passed.{all_passed, none_passed, one_passed}
-use Rattle.legal.proofs.Zero.{filed_zero, unfiled_zero}
+use Rattle.rules.proofs.Made.{made}
+use Rattle.legal.proofs.Zero.{zero_on, filed_zero, unfiled_zero}
 use Rattle.legal.proofs.slot_stands.Goals as goal
-
-pub loop-p-preserved : goal.loop-p-preserved
-loop-p-preserved c =
-    let t = c in
-    let v = t.loop-p in
-    let m = t in
-    let l = t.loop-p-test.true in
-    let e = c.line-l.ensures in (
-      one_more _ v.invariant.0 l e,
-      one_passed v.invariant.1 l
-          (ap₂ (λ n z. (m.has_filed-filed.result && ltb v.p n) || z) m.products-m.ensures.0 (c.is_zero.ensures ∙ ap line_zero e)),
-    )
-
--- not filed
 
 pub returns-then-not-filed : goal.returns-then-not-filed
 returns-then-not-filed c =
-    let t = c in
-    let f = t in
-    let a = f.args in
-    rw (sym f.has_filed-filed.ensures ∙ c.if-not-filed.true)
-    (rw c.if-not-filed.true at (all_passed t.loop-p.invariant.1 t.loop-p-test.false)
-    ∙ unfiled_zero (loaded a.s.now) a.b)
-
--- filed
+    let a = loaded c.args.s.now in
+    let lines = made (λ p. get_or a.cards.lines (place c.args.b p) no_line) 8 (λ p y q l k. search (rules, tests)) c.from_fn-lines.ensures.items in
+    let zero = all_below (zero_on c.products-m.result c.has_filed-filed.result c.from_fn-lines.result) 8 refl (λ x b q k. search (rules, tests)) c.all-zero.ensures.ran in
+    rw (sym c.has_filed-filed.ensures ∙ c.if-not-filed.true)
+    (rw (c.if-not-filed.true, lines) at zero ∙ unfiled_zero (slot_of a c.args.b) c.products-m.result)
 
 pub returns : goal.returns
 returns c =
-    let t = c in
-    let f = t in
-    let a = f.args in
-    let s = loaded a.s.now in
-    let v = t.loop-p.invariant in
+    let a = loaded c.args.s.now in
+    let b = c.args.b in
+    let lines = made (λ p. get_or a.cards.lines (place b p) no_line) 8 (λ p y q l k. search (rules, tests)) c.from_fn-lines.ensures.items in
+    let zero = all_below (zero_on c.products-m.result c.has_filed-filed.result c.from_fn-lines.result) 8 refl (λ x b q k. search (rules, tests)) c.all-zero.ensures.ran in
     let left = c.if-not-filed.false in
-    rw (yes f.has_filed-filed.ensures left)
-    (ap₂ ◌&&◌ (ap (ltb a.b) c.bidders.ensures.0)
-    (ap₂ ◌&&◌ (ap (λ x. eqb x 0) (c.judge.ensures ∙ ap (judged s a.b) (all_filled v.0 t.loop-p-test.false)))
-    (rw left at (all_passed v.1 t.loop-p-test.false) ∙ filed_zero s a.b)))
-
-pub loop-p-init : goal.loop-p-init
-loop-p-init c = (none_filled _ (search rules), none_passed)
+    rw (yes c.has_filed-filed.ensures left)
+    (ap₂ ◌&&◌ (ap (ltb b) c.bidders.ensures.0)
+    (ap₂ ◌&&◌ (c.is_ok.ensures.value ∙ ap is_ok c.judge.ensures ∙ ok_is tt _ ∙ ap (λ ls. eqb (judged a b ls) 0) lines)
+    (rw (left, lines, c.products-m.ensures.0) at zero ∙ filed_zero (slot_of a b) _)))

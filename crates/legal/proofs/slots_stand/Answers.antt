@@ -1,14 +1,10 @@
-use Rattle.held.proofs.Passed.{all_passed, none_passed, one_passed}
+use mathlib.Core.Path.{refl}
+use borrow.Author.Rules.{rules}
+use borrow.Author.Tests.{tests}
+use Rattle.rules.specs.Layout.{loaded}
+use Rattle.rules.specs.Legal.{slot_stands}
+use Rattle.rules.proofs.Ranges.{all_below}
 use Rattle.legal.proofs.slots_stand.Goals as goal
 
-pub slot_stands-ok-requires : goal.slot_stands-ok-requires
-slot_stands-ok-requires c = record { lent = c.requires.lent; bidder = c.loop-b-test.true; ticks = c.ticks_by-ticks.ensures.1 }
-
-pub loop-b-init : goal.loop-b-init
-loop-b-init c = none_passed
-
-pub loop-b-preserved : goal.loop-b-preserved
-loop-b-preserved c = one_passed c.loop-b.invariant c.loop-b-test.true c.slot_stands-ok.ensures
-
 pub returns : goal.returns
-returns c = all_passed c.loop-b.invariant c.loop-b-test.false
+returns c = all_below (slot_stands (loaded c.args.s.now)) 32 refl (λ x b q k. search (rules, tests)) c.all.ensures.ran

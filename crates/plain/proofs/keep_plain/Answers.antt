@@ -1,5 +1,5 @@
-use mathlib.Core.Path.{refl, ap}
-use Prim.Native.Nat.{ℕ}
+use mathlib.Core.Path.{◌≡◌, refl, ap, ◌∙◌}
+use Prim.Native.Nat.{ℕ, ◌-◌}
 use native.Mathlib.Omega.{arith}
 use lib.ListN.{length-replicate}
 use Rattle.rules.specs.Keep.{kept}
@@ -10,14 +10,15 @@ use Rattle.plain.proofs.keep_plain.Goals as goal
 pub number_all-requires : goal.number_all-requires
 number_all-requires c = (length-replicate {A = ℕ} 256 0, length-replicate {A = ℕ} 256 0)
 
-pub sum_all-fuel-requires : goal.sum_all-fuel-requires
-sum_all-fuel-requires c = (c.requires.0.draw.few, refl)
+pub sum_all-most-requires : goal.sum_all-most-requires
+sum_all-most-requires c = (c.requires.0.draw.few, refl)
 
-pub loop-fuel-init : goal.loop-fuel-init
-loop-fuel-init c =
+pub loop-init : goal.loop-init
+loop-init c =
     let a = c.args in
     let g = c.requires.0 in
-    let h = c.sum_all-fuel.ensures in
+    let h = c.sum_all-most.ensures in
+    let all : c.sum_all-most.result - 0 ≡ c.sum_all-most.result = omega arith in
     record {
       going = record {
         few = g.few;
@@ -30,21 +31,21 @@ loop-fuel-init c =
       };
       same =
           ap (λ f. rest a.products a.bidders a.targets.now a.ticks.now a.draw.now a.order.now f
-          (kept (places_in a.ps.now) 0)) h.every_left;
+          (kept (places_in a.ps.now) 0)) (all ∙ h.every_left);
     }
 
 pub pass-all-requires : goal.pass-all-requires
 pass-all-requires c =
-    (c.loop-fuel.invariant.going, c.requires.1)
+    (c.loop.invariant.going, c.requires.1)
 
 pub returns-then-all-count : goal.returns-then-all-count
 returns-then-all-count c =
     let g = c.pass-all.ensures in
-    (turn_idle c.loop-fuel.invariant c.loop-fuel-test.true g c.if-all-count.true, g.going.working.book.room)
+    (turn_idle c.loop.invariant g (omega (arith, c.loop-test.true)) c.if-all-count.true, g.going.working.book.room)
 
-pub loop-fuel-preserved : goal.loop-fuel-preserved
-loop-fuel-preserved c =
-    turn_again c.loop-fuel.invariant c.loop-fuel-test.true c.pass-all.ensures c.if-all-count.false
+pub loop-preserved : goal.loop-preserved
+loop-preserved c =
+    turn_again c.loop.invariant c.pass-all.ensures c.if-all-count.false _ (omega (arith, c.loop-test.true))
 
 pub returns : goal.returns
-returns c = let t = c.loop-fuel.invariant in (turn_ends t c.loop-fuel-test.false, t.going.working.book.room)
+returns c = let t = c.loop.invariant in (turn_ends t (omega (arith, c.loop-test.false)), t.going.working.book.room)

@@ -1,11 +1,7 @@
 use mathlib.Core.Path.{◌≡◌}
-use Prim.Native.Nat.{◌≤◌, ◌-◌}
 use Rattle.rules.specs.Price.{decrement_up_to}
 use Rattle.rules.specs.Layout.{loaded}
 use Rattle.prices.proofs.next_price.Given as goal
 
 abbrev pub invariant-loop-i : goal.invariant-loop-i
-invariant-loop-i l = (l.i ≤ l.n) × (l.decrement.0 ≡ decrement_up_to (loaded l.s).decrements l.percent l.i)
-
-abbrev pub decreases-loop-i : goal.decreases-loop-i
-decreases-loop-i l = l.n - l.i
+invariant-loop-i l = l.decrement.0 ≡ decrement_up_to (loaded l.s).decrements l.percent l.i

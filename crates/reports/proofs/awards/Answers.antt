@@ -1,15 +1,10 @@
 use borrow.Author.Rules.{rules}
-use mathlib.Core.Path.{ap}
+use borrow.Author.Tests.{tests}
+use Rattle.rules.specs.Held.{held_in, record_at}
 use Rattle.rules.specs.Units.{tranches}
-use native.Mathlib.Omega.{arith}
-use Rattle.rules.proofs.Fill.{none_filled, one_more, all_filled}
+use Rattle.rules.specs.Layout.{loaded}
+use Rattle.rules.proofs.Made.{made}
 use Rattle.reports.proofs.awards.Goals as goal
 
-pub loop-k-init : goal.loop-k-init
-loop-k-init c = none_filled _ (search rules)
-
-pub loop-k-preserved : goal.loop-k-preserved
-loop-k-preserved c = one_more _ c.loop-k.invariant (omega arith) (ap tranches c.held.ensures)
-
 pub returns : goal.returns
-returns c = all_filled c.loop-k.invariant (omega arith)
+returns c = let a = loaded c.args.s.now in made (λ k. tranches (held_in (record_at a.records k))) 256 (λ i y q l k. search (rules, tests)) c.from_fn.ensures.items

@@ -1,17 +1,9 @@
 use borrow.Author.Rules.{rules}
-use mathlib.Core.Path.{ap}
-use lib.Dec.{ltb}
-use native.Mathlib.Omega.{arith}
-use Rattle.rules.proofs.Fill.{none_filled, one_more, all_filled}
+use borrow.Author.Tests.{tests}
+use Rattle.rules.specs.Report.{going_on}
+use Rattle.rules.specs.Layout.{loaded}
+use Rattle.rules.proofs.Made.{made}
 use Rattle.reports.proofs.going_prices.Goals as goal
 
-pub loop-p-init : goal.loop-p-init
-loop-p-init c = none_filled _ (search rules)
-
-pub loop-p-preserved : goal.loop-p-preserved
-loop-p-preserved c =
-    one_more _ c.loop-p.invariant (omega arith)
-    (λ i. record { price = c.price-x.ensures.0 i; overridden = ap (ltb 0) c.mark-overridden.ensures i })
-
 pub returns : goal.returns
-returns c = all_filled c.loop-p.invariant (omega arith)
+returns c = let a = loaded c.args.s.now in made (going_on a) 8 (λ i y q l k. search (rules, tests)) c.from_fn.ensures.items

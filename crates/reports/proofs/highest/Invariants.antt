@@ -1,5 +1,5 @@
 use mathlib.Core.Path.{◌≡◌}
-use Prim.Native.Nat.{◌≤◌, ◌-◌}
+use Prim.Native.Nat.{◌≤◌}
 use Rattle.rules.specs.Units.{price_of}
 use Rattle.rules.specs.Report.{highest_up_to}
 use Rattle.rules.specs.Layout.{loaded}
@@ -7,6 +7,3 @@ use Rattle.reports.proofs.highest.Given as goal
 
 abbrev pub invariant-loop-b : goal.invariant-loop-b
 invariant-loop-b l = (l.b ≤ l.n) × (l.most ≡ price_of (loaded l.s).terms.unit (highest_up_to (loaded l.s) l.p l.b))
-
-abbrev pub decreases-loop-b : goal.decreases-loop-b
-decreases-loop-b l = l.n - l.b

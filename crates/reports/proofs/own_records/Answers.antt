@@ -1,13 +1,9 @@
 use borrow.Author.Rules.{rules}
-use native.Mathlib.Omega.{arith}
-use Rattle.rules.proofs.Fill.{none_filled, one_more, all_filled}
+use borrow.Author.Tests.{tests}
+use Rattle.rules.specs.Bid.{record_of}
+use Rattle.rules.specs.Layout.{loaded}
+use Rattle.rules.proofs.Made.{made}
 use Rattle.reports.proofs.own_records.Goals as goal
 
-pub loop-p-init : goal.loop-p-init
-loop-p-init c = none_filled _ (search rules)
-
-pub loop-p-preserved : goal.loop-p-preserved
-loop-p-preserved c = one_more _ c.loop-p.invariant (omega arith) c.record.ensures
-
 pub returns : goal.returns
-returns c = all_filled c.loop-p.invariant (omega arith)
+returns c = let a = loaded c.args.s.now in made (record_of a c.args.b) 8 (λ i y q l k. search (rules, tests)) c.from_fn.ensures.items

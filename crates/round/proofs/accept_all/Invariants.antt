@@ -1,5 +1,5 @@
 use mathlib.Core.Path.{◌≡◌}
-use Prim.Native.Nat.{ℕ, ◌≤◌, ◌<◌, ◌-◌, ◌/◌, ◌%◌}
+use Prim.Native.Nat.{ℕ, ◌≤◌, ◌<◌, ◌/◌, ◌%◌}
 use lib.ListN.{length}
 use Rattle.rules.specs.Accept.{place_at, accepted}
 use Rattle.rules.specs.Bid.{record_of, bid_on}
@@ -11,6 +11,3 @@ abbrev pub invariant-loop-k : goal.invariant-loop-k
 invariant-loop-k l = (l.k ≤ 256)
     × ((length (places_in l.ps) ≡ 256)
     × ((j : ℕ) → j < l.k → place_at (places_in l.ps) j ≡ accepted (record_of (loaded l.s) (j / 8) (j % 8)) (bid_on (loaded l.s) (j / 8) (j % 8))))
-
-abbrev pub decreases-loop-k : goal.decreases-loop-k
-decreases-loop-k l = 256 - l.k

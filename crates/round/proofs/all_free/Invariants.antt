@@ -1,11 +1,8 @@
 use mathlib.Core.Path.{◌≡◌}
-use Prim.Native.Nat.{◌≤◌, ◌*◌, ◌-◌}
+use Prim.Native.Nat.{◌≤◌, ◌*◌}
 use Rattle.rules.specs.Count.{sum_up_to}
 use Rattle.rules.specs.Parts.{tranches_at}
 use Rattle.round.proofs.all_free.Given as goal
 
 abbrev pub invariant-loop-b : goal.invariant-loop-b
-invariant-loop-b l = (l.b ≤ l.bidders) × ((l.sum ≤ 65535 * l.b) × (l.sum ≡ sum_up_to (tranches_at l.free) l.b))
-
-abbrev pub decreases-loop-b : goal.decreases-loop-b
-decreases-loop-b l = l.bidders - l.b
+invariant-loop-b l = (l.sum ≤ 65535 * l.b) × (l.sum ≡ sum_up_to (tranches_at l.free) l.b)

@@ -1,26 +1,18 @@
-use mathlib.Core.Path.{refl}
-use native.Mathlib.Omega.{arith}
+use mathlib.Core.Path.{◌≡◌, refl}
 use borrow.Author.Rules.{rules}
+use Rattle.rules.specs.Units.{amount_of, quote}
+use Rattle.rules.specs.Settings.{setup, target_of}
+use Rattle.rules.specs.Bid.{price_at, before_at}
 use Rattle.rules.specs.Layout.{loaded}
-use Rattle.rules.proofs.Fill.{none_filled, one_more}
-use Rattle.prices.proofs.Laws.{listed}
+use Rattle.rules.proofs.Made.{made_each}
 use Rattle.round.proofs.lanes_of.Goals as goal
 
-pub loop-p-preserved : goal.loop-p-preserved
-loop-p-preserved c =
-    let v = c.loop-p.invariant in (
-      one_more _ v.0 (omega arith) c.target.ensures,
-      (
-        one_more _ v.1.0 (omega arith) (λ i. record { price = c.price-going.ensures.0 i }),
-        one_more _ v.1.1 (omega arith) (λ i. record { price = c.before-last.ensures.0 i }),
-      ),
-    )
-
 pub returns : goal.returns
-returns c =
-    let v = c.loop-p.invariant in
-    let a = loaded c.args.s.now in
-    (listed a.terms.unit _ _ _ v.0 v.1.0 v.1.1 (omega arith), refl)
-
-pub loop-p-init : goal.loop-p-init
-loop-p-init c = (none_filled _ (search rules), (none_filled _ (search rules), none_filled _ (search rules)))
+returns c = (
+  record {
+    target = λ p h. made_each (λ p t. t ≡ target_of (setup (loaded c.args.s.now)) p) 8 (λ x y q l k. search rules) c.from_fn.ensures.items p 0 h;
+    price = λ p h. made_each (λ p x. amount_of x.price ≡ price_at (loaded c.args.s.now) p) 8 (λ x y q l k. search rules) c.from_fn-2.ensures.items p (quote 0 0) h;
+    before = λ p h. made_each (λ p x. amount_of x.price ≡ before_at (loaded c.args.s.now) p) 8 (λ x y q l k. search rules) c.from_fn-3.ensures.items p (quote 0 0) h;
+  },
+  refl,
+)

@@ -1,5 +1,4 @@
 -- `storing::bidders` meets its contract. The parts passed are written. Assumes nothing.
-use Prim.Native.Nat.{◌-◌}
 use Rattle.rules.specs.Parts.{seat_at}
 use Rattle.rules.specs.Calls.{opened}
 use Rattle.rules.specs.Layout.{seat_bytes, bidder_width, bidders_from}
@@ -8,6 +7,3 @@ use Rattle.storing.proofs.bidders.Given as goal
 
 abbrev pub invariant-loop-b : goal.invariant-loop-b
 invariant-loop-b l = Passed (λ b. seat_bytes (seat_at (opened l.t) b)) bidders_from bidder_width 32 l.b l.initial.s l.s
-
-abbrev pub decreases-loop-b : goal.decreases-loop-b
-decreases-loop-b l = 32 - l.b

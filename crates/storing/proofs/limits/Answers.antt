@@ -1,5 +1,5 @@
 use mathlib.Core.Path.{◌≡◌, ◌∙◌}
-use Prim.Native.Nat.{suc, ◌+◌, ◌*◌, ◌-◌}
+use Prim.Native.Nat.{suc, ◌+◌, ◌*◌}
 use native.Mathlib.Omega.{arith}
 use Rattle.rules.specs.Layout.{product_width, products_from}
 use Rattle.storing.proofs.Each.{none_passed, next_passed, all_passed}

@@ -1,6 +1,5 @@
 -- `storing::limits` meets its contract. The parts passed are written. Assumes nothing.
 use mathlib.Core.List.{◌++◌}
-use Prim.Native.Nat.{◌+◌, ◌-◌}
 use Rattle.rules.specs.Parts.{tranches_at}
 use Rattle.rules.specs.Layout.{byte1, product_width, products_from}
 use Rattle.storing.proofs.Each.{Passed}
@@ -8,6 +7,3 @@ use Rattle.storing.proofs.limits.Given as goal
 
 abbrev pub invariant-loop-p : goal.invariant-loop-p
 invariant-loop-p l = Passed (λ k. byte1 (tranches_at l.targets k) ++ byte1 (tranches_at l.caps k)) products_from product_width 8 l.p l.initial.s l.s
-
-abbrev pub decreases-loop-p : goal.decreases-loop-p
-decreases-loop-p l = 8 - l.p

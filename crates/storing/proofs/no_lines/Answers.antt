@@ -1,5 +1,4 @@
 use mathlib.Core.Path.{◌∙◌}
-use Prim.Native.Nat.{◌-◌}
 use native.Mathlib.Omega.{arith}
 use Rattle.storing.proofs.Each.{none_passed, next_passed, all_passed}
 use Rattle.storing.proofs.Sections.{lines_gone}

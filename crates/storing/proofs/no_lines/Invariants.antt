@@ -1,5 +1,4 @@
 -- `storing::no_lines` meets its contract. The parts passed are written. Assumes nothing.
-use Prim.Native.Nat.{◌-◌}
 use Rattle.rules.specs.Card.{no_line}
 use Rattle.rules.specs.Layout.{line_bytes, line_width, bids_from}
 use Rattle.storing.proofs.Each.{Passed}
@@ -7,6 +6,3 @@ use Rattle.storing.proofs.no_lines.Given as goal
 
 abbrev pub invariant-loop-k : goal.invariant-loop-k
 invariant-loop-k l = Passed (λ b. line_bytes no_line) bids_from line_width 256 l.k l.initial.s l.s
-
-abbrev pub decreases-loop-k : goal.decreases-loop-k
-decreases-loop-k l = 256 - l.k

@@ -1,5 +1,4 @@
 use mathlib.Core.Path.{◌∙◌}
-use Prim.Native.Nat.{◌-◌}
 use native.Mathlib.Omega.{arith}
 use Rattle.table.specs.Rows.{places_in}
 use Rattle.storing.proofs.Each.{none_passed, next_passed, all_passed}

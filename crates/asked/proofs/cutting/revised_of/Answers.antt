@@ -1,20 +1,12 @@
-use Rattle.asked.specs.Asked.{revised_asked}
-use Rattle.rules.proofs.Fill.{none_filled, one_more, all_filled}
-use Prim.Native.Nat.{◌-◌}
-use native.Mathlib.Omega.{arith}
 use borrow.Author.Rules.{rules}
+use borrow.Author.Tests.{tests}
+use Rattle.asked.specs.Asked.{target_at, cap_at, revised_asked}
+use Rattle.rules.proofs.Made.{made}
 use Rattle.asked.proofs.cutting.revised_of.Goals as goal
-
-pub loop-i-init : goal.loop-i-init
-loop-i-init c = (none_filled _ (search rules), none_filled _ (search rules))
-
-pub loop-i-preserved : goal.loop-i-preserved
-loop-i-preserved c =
-    let l = c.loop-i.invariant in (
-      one_more _ l.0 (omega arith) (rw c.two_bytes.ensures),
-      one_more _ l.1 (omega arith) (rw c.two_bytes-in-loop-i.ensures),
-    )
 
 pub returns : goal.returns
 unfolding revised_asked
-returns c = let l = c.loop-i.invariant in rw (all_filled l.0 (omega arith), all_filled l.1 (omega arith))
+returns c =
+    let targets = made (target_at c.args.numbers) 8 (λ x y q l k. search (rules, tests)) c.from_fn-targets.ensures.items in
+    let caps = made (cap_at c.args.numbers) 8 (λ x y q l k. search (rules, tests)) c.from_fn-caps.ensures.items in
+    rw (targets, caps)

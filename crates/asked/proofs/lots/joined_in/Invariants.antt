@@ -6,6 +6,3 @@ use Rattle.asked.proofs.lots.joined_in.Given as goal
 
 abbrev pub invariant-loop-i : goal.invariant-loop-i
 invariant-loop-i l = ((l.at ≤ l.e) × (l.e < 18446744073709551616)) × (lots_from l.s l.at l.e l.i (4 - l.i) l.lots ≡ lots_from l.s l.a l.e 0 4 no_lots)
-
-abbrev pub decreases-loop-i : goal.decreases-loop-i
-decreases-loop-i l = 4 - l.i

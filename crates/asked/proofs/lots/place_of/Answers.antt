@@ -1,6 +1,5 @@
 use Rattle.asked.proofs.LotText.{place_more, place_here, place_none}
-use mathlib.Core.Path.{sym, ◌∙◌}
-use Prim.Native.Nat.{◌-◌}
+use mathlib.Core.Path.{◌≡◌, sym, ◌∙◌}
 use native.Mathlib.Omega.{arith}
 use borrow.Author.Rules.{rules}
 use Rattle.asked.proofs.lots.place_of.Goals as goal
@@ -21,4 +20,5 @@ pub returns : goal.returns
 returns c =
     let l = c in
     let a = l.args in
-    (sym (place_none a.s.now a.b l.loop-i.i a.e (omega arith)) ∙ l.loop-i.invariant.1, search rules)
+    let f : a.e ≡ l.loop-i.i = omega arith in
+    (f ∙ sym (place_none a.s.now a.b l.loop-i.i a.e (omega arith)) ∙ l.loop-i.invariant.1, search rules)

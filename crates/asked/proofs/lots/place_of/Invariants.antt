@@ -5,6 +5,3 @@ use Rattle.asked.proofs.lots.place_of.Given as goal
 
 abbrev pub invariant-loop-i : goal.invariant-loop-i
 invariant-loop-i l = ((l.at ≤ l.i) × (l.i ≤ l.e)) × (place_of l.s l.b l.i (l.e - l.i) ≡ place_of l.s l.b l.at (l.e - l.at))
-
-abbrev pub decreases-loop-i : goal.decreases-loop-i
-decreases-loop-i l = l.e - l.i

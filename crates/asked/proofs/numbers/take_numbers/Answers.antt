@@ -1,7 +1,8 @@
 use Rattle.asked.proofs.Typing.{one_more, at_large, at_other, at_end, at_limit, answered}
-use mathlib.Core.Path.{sym, ◌∙◌}
+use mathlib.Core.Path.{◌≡◌, sym, ap, ◌∙◌}
+use Rattle.std.specs.declared.result.Result.TheVariants.{Ok}
+use Rattle.asked.specs.Typed.{typed}
 use native.Mathlib.Omega.{arith}
-use Prim.Native.Nat.{◌-◌}
 use borrow.Author.Rules.{rules}
 use Rattle.asked.proofs.numbers.take_numbers.Goals as goal
 
@@ -18,4 +19,9 @@ pub returns-in-End : goal.returns-in-End
 returns-in-End c = let l = c in let a = l.args in answered a.line.now a.c a.n a.most l.limit-top.result a.numbers.now _ _ l.limit-top.ensures.0 l.loop-k.invariant.1 (at_end a.line.now l.loop-k.at l.loop-k.k l.limit-top.result l.loop-k.numbers (omega arith) (sym c.take_number.ensures ∙ c.in-End.is))
 
 pub returns : goal.returns
-returns c = let l = c in let a = l.args in answered a.line.now a.c a.n a.most l.limit-top.result a.numbers.now _ _ l.limit-top.ensures.0 l.loop-k.invariant.1 (at_limit a.line.now l.loop-k.at l.loop-k.k l.limit-top.result l.loop-k.numbers (omega arith))
+returns c =
+    let l = c in
+    let a = l.args in
+    let f : c.max.result ≡ l.loop-k.k = c.max.ensures ∙ omega arith in
+    answered a.line.now a.c a.n a.most l.limit-top.result a.numbers.now _ _ l.limit-top.ensures.0 l.loop-k.invariant.1
+    (at_limit a.line.now l.loop-k.at l.loop-k.k l.limit-top.result l.loop-k.numbers (omega arith) ∙ ap (λ k. typed (Ok (k, l.loop-k.at)) l.loop-k.numbers) (sym f))

@@ -1,14 +1,8 @@
-use Rattle.rules.proofs.Fill.{none_filled, one_more, all_filled}
-use native.Mathlib.Omega.{arith}
-use Prim.Native.Nat.{◌-◌}
 use borrow.Author.Rules.{rules}
+use borrow.Author.Tests.{tests}
+use Rattle.asked.specs.Asked.{row_at}
+use Rattle.rules.proofs.Made.{made}
 use Rattle.asked.proofs.opening.rows_of.Goals as goal
 
-pub loop-i-preserved : goal.loop-i-preserved
-loop-i-preserved c = one_more _ c.loop-i.invariant (omega arith) (rw (c.two_bytes-in-loop-i.ensures, c.two_bytes.ensures))
-
-pub loop-i-init : goal.loop-i-init
-loop-i-init c = none_filled _ (search rules)
-
 pub returns : goal.returns
-returns c = all_filled c.loop-i.invariant (omega arith)
+returns c = made (row_at c.args.numbers) 8 (λ x y q l k. search (rules, tests)) c.from_fn.ensures.items

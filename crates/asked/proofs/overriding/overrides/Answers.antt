@@ -14,8 +14,8 @@ returns-after-loop-n c = search at_limit
 pub returns-then-p-gt7 : goal.returns-then-p-gt7
 returns-then-p-gt7 c = search no_product
 
-pub returns-then-is_given : goal.returns-then-is_given
-returns-then-is_given c = search twice
+pub returns-then-is_some : goal.returns-then-is_some
+returns-then-is_some c = search twice
 
 pub returns-in-NotANumber-take_points : goal.returns-in-NotANumber-take_points
 returns-in-NotANumber-take_points c = search no_points

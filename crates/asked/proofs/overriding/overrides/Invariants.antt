@@ -7,6 +7,3 @@ use Rattle.asked.proofs.overriding.overrides.Given as goal
 
 abbrev pub invariant-loop-n : goal.invariant-loop-n
 invariant-loop-n l = (length l.overrides ≡ 8) × (overrides_from l.line l.at (9 - l.n) l.overrides ≡ overrides_from l.line l.initial.at 9 (replicate 8 not_chosen))
-
-abbrev pub decreases-loop-n : goal.decreases-loop-n
-decreases-loop-n l = 9 - l.n

@@ -1,11 +1,10 @@
-use Rattle.held.proofs.Passed.{all_passed, none_passed, one_passed}
+use mathlib.Core.Path.{refl}
+use borrow.Author.Rules.{rules}
+use borrow.Author.Tests.{tests}
+use Rattle.rules.specs.Layout.{loaded}
+use Rattle.rules.specs.Legal.{product_stands}
+use Rattle.rules.proofs.Ranges.{all_below}
 use Rattle.legal.proofs.holdings.products_stand.Goals as goal
 
-pub loop-p-init : goal.loop-p-init
-loop-p-init c = none_passed
-
-pub loop-p-preserved : goal.loop-p-preserved
-loop-p-preserved c = one_passed c.loop-p.invariant c.loop-p-test.true c.product_stands-ok.ensures
-
 pub returns : goal.returns
-returns c = all_passed c.loop-p.invariant c.loop-p-test.false
+returns c = all_below (product_stands (loaded c.args.s.now)) 8 refl (λ x b q k. search (rules, tests)) c.all.ensures.ran

@@ -1,15 +1,14 @@
-use Prim.Native.Nat.{◌-◌}
-use native.Mathlib.Omega.{arith}
+use Prim.Native.Nat.{ℕ}
 use borrow.Author.Rules.{rules}
-use Rattle.rules.specs.Settings.{item_of}
-use Rattle.rules.proofs.Fill.{none_filled, one_more, all_filled}
+use borrow.Author.Tests.{tests}
+use Rattle.rules.specs.declared.Item.{Item}
+use Rattle.rules.specs.Settings.{no_product}
+use Rattle.rules.specs.Settings.{item_of, product_at}
+use Rattle.rules.proofs.Lists.{list_is}
 use Rattle.settings.proofs.opening.items_of.Goals as goal
 
-pub loop-p-init : goal.loop-p-init
-loop-p-init c = none_filled _ (search rules)
-
-pub loop-p-preserved : goal.loop-p-preserved
-loop-p-preserved c = one_more _ c.loop-p.invariant (omega arith) c.item_of.ensures
-
 pub returns : goal.returns
-returns c = all_filled c.loop-p.invariant (omega arith)
+returns c =
+    let f : ℕ → Item = λ p. item_of (product_at c.args.s p) in
+    let h = c.map.ensures.items in
+    list_is f (f 0) 8 c.map.result h.long (λ i l. let k = h.at i no_product (f 0) l in search (rules, tests))

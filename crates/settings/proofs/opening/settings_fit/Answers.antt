@@ -1,5 +1,4 @@
 use mathlib.Core.Path.{sym, ◌∙◌}
-use Rattle.rules.proofs.Tests.{no, yes}
 use Rattle.settings.proofs.opening.settings_fit.Goals as goal
 
 pub returns-then-not-one_unit : goal.returns-then-not-one_unit

@@ -4,6 +4,4 @@ use Rattle.sums.proofs.block.after_block.Goals as goal
 
 pub returns : goal.returns
 unfolding after_block
-returns c =
-    let v = c in
-    rw (c.added.ensures, c.rounds.ensures, v.work_of.ensures, v.schedule-w.ensures)
+returns c = rw (c.added.ensures, c.rounds.ensures, c.work_of.ensures, c.schedule-w.ensures)

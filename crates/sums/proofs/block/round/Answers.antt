@@ -4,18 +4,16 @@ use Rattle.sums.proofs.block.round.Goals as goal
 
 pub returns : goal.returns
 unfolding round_of
-returns c =
-    let d = c in
-    rw (
-      c.plus-5.ensures,
-      c.plus-4.ensures,
-      c.plus-t2.ensures,
-      c.maj.ensures,
-      c.big_sigma0.ensures,
-      c.plus-t1.ensures,
-      d.plus-3.ensures,
-      d.plus-2.ensures,
-      d.ch.ensures,
-      d.plus.ensures,
-      d.big_sigma1.ensures,
-    )
+returns c = rw (
+  c.plus-5.ensures,
+  c.plus-4.ensures,
+  c.plus-t2.ensures,
+  c.maj.ensures,
+  c.big_sigma0.ensures,
+  c.plus-t1.ensures,
+  c.plus-3.ensures,
+  c.plus-2.ensures,
+  c.ch.ensures,
+  c.plus.ensures,
+  c.big_sigma1.ensures,
+)

@@ -8,7 +8,7 @@ loop-t-init c = search rules
 
 pub loop-t-preserved : goal.loop-t-preserved
 unfolding rounds_up_to
-loop-t-preserved c = (search rules, rw add-one (cc))
+loop-t-preserved c = rw add-one (cc)
 
 pub returns : goal.returns
-returns c = cc (le_antisymm c.loop-t.invariant.0 c.loop-t-test.false)
+returns c = cc (le_antisymm c.loop-t.auto.t-end c.loop-t-test.false)

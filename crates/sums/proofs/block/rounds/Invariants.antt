@@ -1,10 +1,7 @@
 -- `rounds` meets its contract: a turn is a round. Assumes nothing.
-use Rattle.std.proofs.Common.{◌≡◌, ◌-◌, ◌≤◌}
+use Rattle.std.proofs.Common.{◌≡◌}
 use Rattle.sums.specs.Block.{rounds_up_to}
 use Rattle.sums.proofs.block.rounds.Given as goal
 
 abbrev pub invariant-loop-t : goal.invariant-loop-t
-invariant-loop-t l = (l.t ≤ 64) × (l.v ≡ rounds_up_to l.initial.v l.w l.t)
-
-abbrev pub decreases-loop-t : goal.decreases-loop-t
-decreases-loop-t l = 64 - l.t
+invariant-loop-t l = l.v ≡ rounds_up_to l.initial.v l.w l.t

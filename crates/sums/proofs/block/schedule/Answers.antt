@@ -11,4 +11,4 @@ unfolding schedule_up_to
 loop-t-preserved c = (search rules, rw add-one (cc))
 
 pub returns : goal.returns
-returns c = cc (le_antisymm c.loop-t.invariant.0.0 c.loop-t-test.false)
+returns c = cc (le_antisymm c.loop-t.auto.t-end c.loop-t-test.false)

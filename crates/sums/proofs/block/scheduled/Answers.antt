@@ -9,13 +9,11 @@ returns-then-t-lt16 c = rw (lt-ltb _ _ c.if-t-lt16.true) c.word_of.ensures
 
 pub returns : goal.returns
 unfolding scheduled
-returns c =
-    let p = c in
-    rw (
-      c.plus-3.ensures,
-      c.plus-2.ensures,
-      c.small_sigma0.ensures,
-      p.plus.ensures,
-      p.small_sigma1.ensures,
-      le-ltb _ _ p.if-t-lt16.false,
-    )
+returns c = rw (
+  c.plus-3.ensures,
+  c.plus-2.ensures,
+  c.small_sigma0.ensures,
+  c.plus.ensures,
+  c.small_sigma1.ensures,
+  le-ltb _ _ c.if-t-lt16.false,
+)

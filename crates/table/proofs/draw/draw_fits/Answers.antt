@@ -1,22 +1,21 @@
-use native.Mathlib.Nat.{le_antisymm}
-use native.Mathlib.Numerals.{add-one}
-use borrow.Author.Tests.{eq-eqb, ne_eqb}
+use mathlib.Core.Bool.{◌&&◌}
+use mathlib.Core.Path.{refl, ap₂}
 use borrow.Author.Rules.{rules}
-use Rattle.rules.specs.Count.{all_up_to}
+use borrow.Author.Tests.{tests, eq-eqb, ne_eqb}
+use lib.Dec.{eqb, ltb}
+use Rattle.std.specs.Prelude.{is_some}
+use Rattle.rules.specs.Count.{first_up_to}
+use Rattle.rules.specs.Round.{drawn}
+use Rattle.rules.proofs.Ranges.{all_below}
 use Rattle.table.proofs.draw.draw_fits.Goals as goal
 
 pub returns-then-order-bidders : goal.returns-then-order-bidders
 returns-then-order-bidders c = search (ne_eqb)
 
-pub loop-b-init : goal.loop-b-init
-unfolding all_up_to
-loop-b-init c = search rules
-
-pub loop-b-preserved : goal.loop-b-preserved
-unfolding all_up_to
-loop-b-preserved c = rw add-one (search rules, (cc, cc))
-
 pub returns : goal.returns
 returns c =
-    let e = le_antisymm c.loop-b.invariant.0 c.loop-b-test.false in
-    rw (eq-eqb _ _ c.if-order-bidders.false) (cc (e))
+    let d = c in
+    let a = d.args in
+    rw (eq-eqb _ _ d.if-order-bidders.false)
+    (ap₂ ◌&&◌ (all_below (λ i. ltb (drawn a.order.now i) a.bidders) a.bidders refl (λ x b q k. search (rules, tests)) d.all-known.ensures.ran)
+    (all_below (λ b. is_some (first_up_to (λ i. eqb (drawn a.order.now i) b) a.bidders)) a.bidders refl (λ x b q k. search (rules, tests)) c.all.ensures.ran))

@@ -9,12 +9,8 @@ loop-i-init c = search rules
 
 pub loop-i-preserved : goal.loop-i-preserved
 loop-i-preserved c =
-    let l = c in
-    let a = l.args in (
-      search rules,
-      rw (c.nibble-low.ensures.0, c.nibble-high.ensures.0, l.loop-i.invariant.1)
-          (hex_more a.w.now a.out.now l.loop-i.i (omega arith)),
-    )
+    let a = c.args in
+    rw (c.nibble-low.ensures.0, c.nibble-high.ensures.0, c.loop-i.invariant) (hex_more a.w.now a.out.now c.loop-i.i (omega arith))
 
 pub returns : goal.returns
-returns c = cc (le_antisymm c.loop-i.invariant.0.0 c.loop-i-test.false)
+returns c = cc (le_antisymm c.loop-i.auto.i-end c.loop-i-test.false)

@@ -1,4 +1,0 @@
-use Rattle.book.proofs.lot.Goals as goal
-
-pub returns : goal.returns
-returns c = cc

@@ -1,9 +1,0 @@
-use lib.Seq.{paste}
-use Rattle.std.proofs.Common.{◌≡◌, ◌-◌, ◌≤◌, length}
-use Rattle.text.proofs.answer.copy_in.Given as goal
-
-abbrev pub invariant-loop-j : goal.invariant-loop-j
-invariant-loop-j l = ((l.j ≤ length l.src) × (length l.dst ≡ length l.initial.dst)) × (l.dst ≡ paste l.initial.dst l.at l.src l.j)
-
-abbrev pub decreases-loop-j : goal.decreases-loop-j
-decreases-loop-j l = length l.src - l.j
