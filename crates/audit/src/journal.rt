@@ -313,7 +313,10 @@ pub fn put_fault(told: &mut [u8; ANSWER], at: usize, fault: Fault, out: &[u8]) -
         Fault::NotACall => put(told, at, b"what was given is no call\n"),
         Fault::Refused(n) => {
             let a = put(told, at, b"the call is not accepted: ");
-            put(told, a, &out[..n.min(out.len())])
+            match out.get(..n) {
+                Some(why) => put(told, a, why),
+                None => a,
+            }
         }
         Fault::OtherAnswer => put(told, at, b"the answer is another\n"),
         Fault::OtherSum => put(

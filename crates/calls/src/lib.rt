@@ -39,21 +39,6 @@ pub fn other_length(kind: Kind, state: &[u8; STATE], out: &mut [u8; ANSWER]) -> 
     0
 }
 
-// Where more stands in the line, or the box has another length, how long what is said of that is; else 0.
-pub fn unready(
-    line: &[u8],
-    c: Cursor,
-    kind: Kind,
-    state: &[u8; STATE],
-    out: &mut [u8; ANSWER],
-) -> usize {
-    let more = ends(line, c, out);
-    if more != 0 {
-        return more;
-    }
-    other_length(kind, state, out)
-}
-
 // ---- Opening and return
 
 // What is said of an opening: the settings as they were taken, or which of them is outside its limits.
@@ -119,7 +104,11 @@ fn return_box(
 ) -> Made
     ensures { Makes return_word work.old work.new }
 {
-    let wrong = unready(line, c, kind, work, out);
+    let more = ends(line, c, out);
+    if more != 0 {
+        return Made::Said(more);
+    }
+    let wrong = other_length(kind, work, out);
     if wrong != 0 {
         return Made::Said(wrong);
     }

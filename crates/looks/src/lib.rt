@@ -2,7 +2,7 @@
 #![tactic(auto)]
 
 use asked::{Numbers, One, ends, groups, one_byte, one_number, two_bytes};
-use calls::{bytes_of, card_length, not_written, put_card, refused, unready};
+use calls::{bytes_of, card_length, not_written, other_length, put_card, refused};
 use check::same;
 use layout::STATE;
 use rules::Line;
@@ -14,6 +14,21 @@ use view::put_refused;
 fn put_number(out: &mut [u8; ANSWER], n: u32) -> usize {
     let a = put_named(out, 0, b"ok ", n as u64);
     put(out, a, b"\n")
+}
+
+// Where more stands in the line, or the box has another length, how long what is said of that is; else 0.
+fn unready(
+    line: &[u8],
+    c: Cursor,
+    kind: Kind,
+    state: &[u8; STATE],
+    out: &mut [u8; ANSWER],
+) -> usize {
+    let more = ends(line, c, out);
+    if more != 0 {
+        return more;
+    }
+    other_length(kind, state, out)
 }
 
 // How many bidders are to file, or the length of the refusal.

@@ -64,9 +64,12 @@ fn after_kind(
     if to <= from {
         return Err(wrong(out, b"a name is missing", line.len()));
     }
-    fit(&line[from..to], from, out)?;
+    let said = match fit(&line[from..to], from, out) {
+        Ok(()) => 0,
+        Err(said) => said,
+    };
     Ok(Naming {
-        said: 0,
+        said,
         bidder,
         number,
         at,

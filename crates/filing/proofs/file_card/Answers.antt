@@ -1,5 +1,6 @@
 use mathlib.Core.Path.{◌∙◌, refl, ap}
 use native.Mathlib.Omega.{arith}
+use borrow.Author.Rules.{rules}
 use Rattle.rules.specs.Card.{read_card}
 use Rattle.rules.specs.Layout.{loaded}
 use Rattle.rules.proofs.Storing.{loaded_long}
@@ -15,6 +16,6 @@ returns c =
       bidding = omega (arith, c.if-phase-ne-OPEN.false, c.phase.ensures);
       read = c.read-got.ensures ∙ ap (read_card c.args.card.now) c.products.ensures.0;
     } in
-    bid_filed reads c.in_ok-bidder.was c.in_ok-bid_number.ensures refl
+    bid_filed reads c.in_ok-bidder.was (search rules) refl
     (slot_filed a bid.bidder _ c.marked-marks.result got.lines c.marked-marks.ensures c.filed.ensures
     (c.filed-2.ensures _ (c.slot.ensures a (loaded_long c.args.s.now).lines c.as_stored.ensures.1)))

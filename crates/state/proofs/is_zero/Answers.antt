@@ -27,5 +27,5 @@ placed test xs (suc k) l =
 pub returns : goal.returns
 returns c =
     let s = c.args.s.now in
-    all_from_yields_List (λ x. eqb x 0) _ _ _ c.all.ensures.ran (YieldsList-from_slice s cc) (λ x b q k. search (rules, tests))
+    all_from_yields_List (λ x. eqb x 0) _ _ _ c.all.ensures.ran (YieldsList-from_slice s (cc (take_all (length s) s (omega arith)))) (λ x b q k. search (rules, tests))
     ∙ ap (list_all (λ x. eqb x 0)) (sym (take_all (length s) s (omega arith))) ∙ placed (λ x. eqb x 0) s (length s) (omega arith)
